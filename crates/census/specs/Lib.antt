@@ -1,0 +1,2 @@
+-- The plain layer's answers.
+pub mod Plain
