@@ -1,8 +1,8 @@
 -- `search::calls::naive_sizes` meets its contract: 1 goes before the length of the slice for the kept tally.
 -- Assumes nothing.
 use borrow.Author.Needs.{needs}
-use mathlib.Core.Path.{_≡_, sym, _∙_}
-use Rattle.search.specs.Moves.{sizes-1, sizes-2, sizes-same}
+use mathlib.Core.Path.{sym, _∙_}
+use Rattle.search.specs.Refusals.{sizes-1, sizes-2, sizes-same}
 use Rattle.search.proofs.calls.naive_sizes.Statement.{statement}
 use Rattle.search.proofs.calls.naive_sizes.Tie as tie
 

@@ -1,0 +1,4 @@
+pub mod Equity
+pub mod FullRacks
+pub mod Keeping
+pub mod Moves
