@@ -14,7 +14,7 @@ use Rattle.laws.specs.Greatest.{GreatestOver}
 use Rattle.laws.specs.Integer.{atℤ, ≤ℤ-antisym}
 use Rattle.lattice.specs.AddRows.{Decides}
 use Rattle.lattice.specs.Answers.{served}
-use Rattle.lattice.specs.Tally.{total, lattice, start, rankOf, parts}
+use Rattle.lattice.specs.Tally.{lattice, start}
 use Rattle.lattice.specs.Rank.{rank-at, at-fits}
 use Rattle.lattice.specs.Lattice.{length-lattice}
 use Rattle.lattice.specs.Leaves.{table-rises}

@@ -1,5 +1,5 @@
 -- `maxima::calls::subset_max_transform` meets its contract: the lattice's own length tells whether the sizes are served. Assumes nothing.
-use mathlib.Core.Path.{sym, subst}
+use mathlib.Core.Path.{subst}
 use native.Mathlib.Omega.{arith}
 use borrow.Author.Needs.{needs}
 use Rattle.lattice.specs.Numbers.{Len}
