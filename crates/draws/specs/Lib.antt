@@ -1,4 +1,5 @@
 pub mod Draws
+pub mod FullRacks
 pub mod Walk
 pub mod Racks
 pub mod Exact
