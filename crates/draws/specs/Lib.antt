@@ -1,0 +1,9 @@
+pub mod Draws
+pub mod FullRacks
+pub mod Walk
+pub mod Racks
+pub mod Exact
+pub mod Walking
+pub mod Answer
+pub mod Leave
+pub mod Examples
