@@ -1,5 +1,5 @@
 -- From what a search of a rack finds to its answer. Assumes nothing.
-use mathlib.Core.Path.{_≡_, refl, sym, ap, _∙_, subst}
+use mathlib.Core.Path.{_≡_, refl, sym, ap, ap₂, _∙_, subst}
 use mathlib.Core.List.{List}
 use Prim.Native.Nat.{ℕ, zero, suc, _+_, _≤_}
 use native.Mathlib.Omega.{arith}
@@ -11,7 +11,7 @@ use Rattle.lattice.specs.Tally.{total}
 use Rattle.search.specs.Counts.{atMost}
 use Rattle.search.specs.Split.{bestSplit, found, Held}
 use Rattle.search.specs.Best.{found-in, found-out}
-use Rattle.search.specs.Refusals.{orElse, sizesNumber, entriesNumber, rackNumber, Sized, sized, within-length}
+use Rattle.search.specs.Refusals.{orElse, sizesNumber, rackNumber, Sized, sized, entries-0, entries-5, within-length}
 use Rattle.search.specs.Answers.{given, bestNumber, bestValue, Answered}
 use Rattle.search.specs.declared.calls.Best.the-variants.{Is, Refused}
 
@@ -44,11 +44,14 @@ module _ (n r : ℕ) (sheet leave : List ℤ) (t : List ℕ) where
     found-here = is ∙ ap (λ (k : ℕ). found sheet leave k t) (sized n r (length sheet) (length leave) t none .letters)
 
     pub rack-found : v <ℤ pos 2147483647 → Answered (rackNumber n r sheet leave t) (bestSplit sheet leave n t) (Is v)
-    unfolding rackNumber orElse entriesNumber given
+    unfolding rackNumber orElse given
     rack-found h =
         let f = found-in sheet leave n t found-here h in
-        rw (none, f .0, ← f .1) (answered 0 v)
+        let e : rackNumber n r sheet leave t ≡ 0 = ap₂ orElse none (entries-0 sheet leave n t (f .0)) in
+        rw (e, ← f .1) (answered 0 v)
 
     pub rack-beyond : pos 2147483647 ≤ℤ v → Answered (rackNumber n r sheet leave t) (bestSplit sheet leave n t) (Refused 5)
-    unfolding rackNumber orElse entriesNumber given
-    rack-beyond h = rw (none, found-out sheet leave n t found-here h) (answered 5 (bestSplit sheet leave n t))
+    unfolding rackNumber orElse given
+    rack-beyond h =
+        let e : rackNumber n r sheet leave t ≡ 5 = ap₂ orElse none (entries-5 sheet leave n t (found-out sheet leave n t found-here h)) in
+        rw e (answered 5 (bestSplit sheet leave n t))

@@ -1,5 +1,5 @@
 -- From what the naive search finds to its answer. Assumes nothing.
-use mathlib.Core.Path.{_≡_, refl, sym, ap, _∙_, subst}
+use mathlib.Core.Path.{_≡_, refl, sym, ap, ap₂, _∙_, subst}
 use mathlib.Core.Bool.{Bool, true, false, cond}
 use mathlib.Core.List.{List}
 use Prim.Native.Nat.{ℕ, zero, suc, _+_}
@@ -22,7 +22,7 @@ use Rattle.search.specs.BestKeep.{noLeave}
 use Rattle.search.specs.Naive.{playedOf, played-first, first-unique}
 use Rattle.search.specs.NaiveWalk.{Marks, naive-value, naive-first}
 use Rattle.search.specs.NaiveKept.{KeptAfter, LeaveReady}
-use Rattle.search.specs.Refusals.{orElse, entriesNumber, naiveSizes, naiveNumber, naive-sized}
+use Rattle.search.specs.Refusals.{orElse, entries-0, entries-5, naiveSizes, naiveNumber, naive-sized}
 use Rattle.search.specs.Answers.{given, given-refused, word, exchange, noMove, moveNumber, moveValue, moveKind, refusal, Played}
 use Rattle.search.specs.declared.Kept.{Kept}
 use Rattle.search.specs.declared.calls.Move.{Move}
@@ -47,16 +47,17 @@ module _ (n r : ℕ) (sheet leave : List ℤ) (t entry : List ℕ) where
   abbrev isWord : Bool
   isWord = ltZ (pos 0) (getD sheet (rankOf n (playedOf sheet leave n t)) (pos 0))
 
-  abbrev k₀ : ℕ
-  k₀ = refusal n r sheet leave t entry
+  -- the number of the call
+  abbrev number : ℕ
+  number = refusal n r sheet leave t entry
 
-  played-by : {b : Move} {exit : List ℕ} → b ≡ given k₀ (cond isWord (Word (bestSplit sheet leave n t)) (Exchange (bestSplit sheet leave n t))) (Refused k₀) → exit ≡ given k₀ (minus t (playedOf sheet leave n t)) entry → Played n r sheet leave t entry b exit
+  played-by : {b : Move} {exit : List ℕ} → b ≡ given number (cond isWord (Word (bestSplit sheet leave n t)) (Exchange (bestSplit sheet leave n t))) (Refused number) → exit ≡ given number (minus t (playedOf sheet leave n t)) entry → Played n r sheet leave t entry b exit
   played-by e rest =
-      let a = says k₀ isWord (bestSplit sheet leave n t) in
+      let a = says number isWord (bestSplit sheet leave n t) in
       record { is = e; numbered = ap moveNumber e ∙ a .0; valued = ap moveValue e ∙ a .1; kind = ap moveKind e ∙ a .2; rest = rest }
 
-  naive-refused : (k : ℕ) → k ≡ k₀ → (k ≡ 0 → ⊥) → Played n r sheet leave t entry (Refused k) entry
-  naive-refused k e f = played-by (ap Refused e ∙ sym (given-refused k₀ _ _ (λ z. f (e ∙ z)))) (sym (given-refused k₀ _ _ (λ z. f (e ∙ z))))
+  naive-refused : (k : ℕ) → k ≡ number → (k ≡ 0 → ⊥) → Played n r sheet leave t entry (Refused k) entry
+  naive-refused k e f = played-by (ap Refused e ∙ sym (given-refused number _ _ (λ z. f (e ∙ z)))) (sym (given-refused number _ _ (λ z. f (e ∙ z))))
 
   pub sizes-refused : (k : ℕ) → k ≡ naiveSizes n r (length sheet) (length leave) t (length entry) → (k ≡ 0 → ⊥) → Played n r sheet leave t entry (Refused k) entry
   unfolding naiveNumber orElse
@@ -71,8 +72,10 @@ module _ (n r : ℕ) (sheet leave : List ℤ) (t entry : List ℕ) where
     marks = subst (λ (k : ℕ). GreatestBy KeptLe noLeave (Marks sheet leave k t 0 0 0 0 0 0 1) f) letters g
 
     pub naive-beyond : pos 2147483647 ≤ℤ f .value → Played n r sheet leave t entry (Refused 5) entry
-    unfolding naiveNumber orElse entriesNumber
-    naive-beyond h = naive-refused 5 (rw (none, found-out sheet leave n t (naive-value sheet leave n t marks) h)) (λ e. omega (arith, e))
+    unfolding naiveNumber orElse
+    naive-beyond h =
+        let e : number ≡ 5 = ap₂ orElse none (entries-5 sheet leave n t (found-out sheet leave n t (naive-value sheet leave n t marks) h)) in
+        naive-refused 5 (sym e) (λ z. omega (arith, z))
 
     module _ (h : f .value <ℤ pos 2147483647) where
       all : partsSmall sheet leave n t ≡ true
@@ -81,9 +84,9 @@ module _ (n r : ℕ) (sheet leave : List ℤ) (t entry : List ℕ) where
       is-best : f .value ≡ bestSplit sheet leave n t
       is-best = found-in sheet leave n t (naive-value sheet leave n t marks) h .1
 
-      accepted : k₀ ≡ 0
-      unfolding naiveNumber orElse entriesNumber
-      accepted = rw (none, all)
+      accepted : number ≡ 0
+      unfolding naiveNumber orElse
+      accepted = ap₂ orElse none (entries-0 sheet leave n t all)
 
       module _ {exit : List ℕ} (w : KeptAfter t (f .rank) exit) where
         -- the kept tally

@@ -154,6 +154,17 @@ module _ (n r sheet leave : ℕ) (t : List ℕ) where
             (sized (sizes-same same ∙ e), same)
         go false k = absurd (other-length k e)
 
+-- ---- what the entries tell
+
+module _ (sheet leave : List ℤ) (n : ℕ) (t : List ℕ) where
+  pub entries-0 : partsSmall sheet leave n t ≡ true → entriesNumber sheet leave n t ≡ 0
+  unfolding entriesNumber
+  entries-0 e = rw e
+
+  pub entries-5 : partsSmall sheet leave n t ≡ false → entriesNumber sheet leave n t ≡ 5
+  unfolding entriesNumber
+  entries-5 e = rw e
+
 -- ---- the length that is served
 
 -- the length of a lattice, and 0 where its sizes are not served
