@@ -28,6 +28,56 @@ pub fn sizes_ok(n: u64, r: u64) -> bool {
     (1..=64).contains(&n) && (1..=15).contains(&r) && binom((n + r) as u128, n as u128) <= 4_294_967_294
 }
 
+// ---- the numbers of calls on ranks, for any sizes: 0 where accepted
+
+pub fn sizes_number(n: usize, r: usize) -> u8 {
+    !sizes_ok(n as u64, r as u64) as u8
+}
+
+// the first that applies
+fn first(refusals: &[(bool, u8)]) -> u8 {
+    refusals.iter().find(|x| x.0).map_or(0, |x| x.1)
+}
+
+pub fn size_start_number(n: usize, r: usize, s: u64) -> u8 {
+    first(&[(!sizes_ok(n as u64, r as u64), 1), (s > (r as u64).saturating_add(1), 4)])
+}
+
+pub fn rank_number(n: usize, r: usize, tally: &[u8]) -> u8 {
+    first(&[(!sizes_ok(n as u64, r as u64), 1), (tally.len() != n, 2), (total(tally) > r, 4)])
+}
+
+pub fn sparse_number(n: usize, r: usize, s: u64, letters: &[u8], counts: &[u8]) -> u8 {
+    let ascend = letters.windows(2).all(|w| w[0] < w[1]);
+    let sum = total(counts);
+    first(&[
+        (!sizes_ok(n as u64, r as u64), 1),
+        (letters.len() != counts.len(), 2),
+        (!ascend || letters.iter().any(|&l| l as usize >= n), 3),
+        (sum > r || sum as u64 != s, 4),
+    ])
+}
+
+pub fn bytes_number(n: usize, r: usize, tiles: &[u8]) -> u8 {
+    first(&[(!sizes_ok(n as u64, r as u64), 1), (tiles.iter().any(|&t| t as usize >= n), 3), (tiles.len() > r, 4)])
+}
+
+pub fn unrank_number(n: usize, r: usize, idx: u64, out_len: usize) -> u8 {
+    let past = || idx as u128 >= binom((n + r) as u128, n as u128);
+    first(&[(!sizes_ok(n as u64, r as u64), 1), (out_len != n, 2), (sizes_ok(n as u64, r as u64) && past(), 4)])
+}
+
+pub fn pascal_number(rows: u64, len: usize) -> u8 {
+    let size = rows as u128 * (rows as u128 + 1) / 2;
+    first(&[(size != len as u128, 2), (!(1..=81).contains(&rows), 4)])
+}
+
+fn accept<T>(number: u8, answer: impl FnOnce() -> T) -> Answer<T> {
+    if number == 0 { Ok(answer()) } else { Err(number) }
+}
+
+// ---- tallies
+
 // every tally of n letters and s tiles, ascending with letter 0 first
 fn tallies(n: usize, s: usize, head: &mut Vec<u8>, out: &mut Vec<Vec<u8>>) {
     if n == 0 {
@@ -145,69 +195,37 @@ impl Lattice {
         self.list.len()
     }
 
-    pub fn is_empty(&self) -> bool {
-        false
-    }
-
     // where full racks start
     pub fn lo(&self) -> usize {
         self.start[self.r]
     }
 
-    pub fn size_start(&self, s: u64) -> Answer<u32> {
-        if s > self.r as u64 + 1 { Err(4) } else { Ok(self.start[s as usize] as u32) }
-    }
-
     pub fn rank(&self, tally: &[u8]) -> Answer<u32> {
-        if tally.len() != self.n {
-            return Err(2);
-        }
-        if total(tally) > self.r {
-            return Err(4);
-        }
-        Ok(self.index[tally])
+        accept(rank_number(self.n, self.r, tally), || self.index[tally])
     }
 
     pub fn rank_sparse(&self, s: u64, letters: &[u8], counts: &[u8]) -> Answer<u32> {
-        if letters.len() != counts.len() {
-            return Err(2);
-        }
-        if letters.iter().any(|&l| l as usize >= self.n) || letters.windows(2).any(|w| w[0] >= w[1]) {
-            return Err(3);
-        }
-        let sum = total(counts);
-        if sum > self.r || sum as u64 != s {
-            return Err(4);
-        }
-        let mut tally = vec![0u8; self.n];
-        for (&l, &c) in letters.iter().zip(counts) {
-            tally[l as usize] = c;
-        }
-        self.rank(&tally)
+        accept(sparse_number(self.n, self.r, s, letters, counts), || {
+            let mut tally = vec![0u8; self.n];
+            for (&l, &c) in letters.iter().zip(counts) {
+                tally[l as usize] = c;
+            }
+            self.index[&tally]
+        })
     }
 
-    pub fn rank_bytes(&self, bytes: &[u8]) -> Answer<u32> {
-        if bytes.iter().any(|&b| b as usize >= self.n) {
-            return Err(3);
-        }
-        if bytes.len() > self.r {
-            return Err(4);
-        }
-        let mut tally = vec![0u8; self.n];
-        for &b in bytes {
-            tally[b as usize] += 1;
-        }
-        self.rank(&tally)
+    pub fn rank_bytes(&self, tiles: &[u8]) -> Answer<u32> {
+        accept(bytes_number(self.n, self.r, tiles), || {
+            let mut tally = vec![0u8; self.n];
+            for &t in tiles {
+                tally[t as usize] += 1;
+            }
+            self.index[&tally]
+        })
     }
 
     pub fn unrank(&self, idx: u64, out_len: usize) -> Answer<Vec<u8>> {
-        if out_len != self.n {
-            return Err(2);
-        }
-        if idx >= self.len() as u64 {
-            return Err(4);
-        }
-        Ok(self.list[idx as usize].clone())
+        accept(unrank_number(self.n, self.r, idx, out_len), || self.list[idx as usize].clone())
     }
 
     pub fn plus(&self, idx: usize, t: usize) -> u32 {
@@ -263,17 +281,19 @@ impl Lattice {
         }
     }
 
+    pub fn best_table_number(&self, sheet: &[i32], leave: &[i32], out: usize) -> u8 {
+        let len = self.len();
+        first(&[(sheet.len() != len || leave.len() != len || out != len, 2), (sheet.iter().chain(leave).any(|&v| beyond(v)), 5)])
+    }
+
     pub fn best_table(&self, sheet: &[i32], leave: &[i32], out: &mut [i32]) -> u8 {
-        if sheet.len() != self.len() || leave.len() != self.len() || out.len() != self.len() {
-            return 2;
+        let number = self.best_table_number(sheet, leave, out.len());
+        if number == 0 {
+            for i in self.lo()..self.len() {
+                out[i] = self.best_split(sheet, leave, &self.list[i]).0 as i32;
+            }
         }
-        if sheet.iter().chain(leave).any(|&v| beyond(v)) {
-            return 5;
-        }
-        for i in self.lo()..self.len() {
-            out[i] = self.best_split(sheet, leave, &self.list[i]).0 as i32;
-        }
-        0
+        number
     }
 
     pub fn keep(&self, leave: &[i32], tally: &[u8], keep: u64) -> Answer<(i32, u32)> {
@@ -431,16 +451,19 @@ impl Lattice {
         Ok(if den == 0 { UNPLAYABLE } else { (num / den) as i32 })
     }
 
+    pub fn blanks_number(&self, sheet: &[i32], score: i32, letters: &[u8], drops: &[i32], pool: &[u8]) -> u8 {
+        first(&[
+            (sheet.len() != self.len() || letters.len() != drops.len() || pool.len() != self.n, 2),
+            (letters.iter().any(|&l| l == 0 || l as usize >= self.n), 3),
+            (beyond(score) || drops.iter().any(|&d| d.unsigned_abs() > MOST_DROP as u32), 5),
+        ])
+    }
+
     // the number; sheet, letters and drops are changed where accepted
     pub fn blanks(&self, sheet: &mut [i32], score: i32, letters: &mut [u8], drops: &mut [i32], pool: &[u8], blanks: u64) -> u8 {
-        if sheet.len() != self.len() || letters.len() != drops.len() || pool.len() != self.n {
-            return 2;
-        }
-        if letters.iter().any(|&l| l == 0 || l as usize >= self.n) {
-            return 3;
-        }
-        if beyond(score) || drops.iter().any(|&d| d.unsigned_abs() > MOST_DROP as u32) {
-            return 5;
+        let number = self.blanks_number(sheet, score, letters, drops, pool);
+        if number != 0 {
+            return number;
         }
         let k = letters.len();
         if k == 0 || k > self.r {

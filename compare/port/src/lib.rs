@@ -1,0 +1,82 @@
+// The port's plain layer, as Rust functions on numbers and slices. Every call is safe for every input: the exported functions have no
+// `requires`, so a wrapper only takes the slices apart into pointer and length.
+
+pub mod lent;
+pub mod report;
+
+#[repr(C)]
+#[derive(Clone, Copy, Debug, PartialEq)]
+pub struct Rank {
+    pub number: u8,
+    pub value: u32,
+}
+
+#[repr(C)]
+#[derive(Clone, Copy, Debug, PartialEq)]
+pub struct Equity {
+    pub number: u8,
+    pub value: i32,
+}
+
+#[repr(C)]
+#[derive(Clone, Copy, Debug, PartialEq)]
+pub struct Leave {
+    pub number: u8,
+    pub value: i32,
+    pub rank: u32,
+}
+
+#[repr(C)]
+#[derive(Clone, Copy, Debug, PartialEq)]
+pub struct Part {
+    pub start: usize,
+    pub len: usize,
+}
+
+// A function of the archive, and a safe one over slices beside it. A parameter is a number, `[T]` for a slice that is read, or `mut [T]` for
+// one that is written.
+macro_rules! exported {
+    ($($name:ident = $symbol:ident ($($args:tt)*) -> $result:ty;)*) => {
+        $(exported!(@one $name $symbol $result; (); (); (); $($args)*);)*
+    };
+    (@one $name:ident $symbol:ident $result:ty; ($($safe:tt)*); ($($raw:tt)*); ($($pass:tt)*); $arg:ident : mut [$t:ty], $($more:tt)*) => {
+        exported!(@one $name $symbol $result; ($($safe)* $arg: &mut [$t],); ($($raw)* $arg: *mut $t, _: usize,);
+            ($($pass)* $arg.as_mut_ptr(), $arg.len(),); $($more)*);
+    };
+    (@one $name:ident $symbol:ident $result:ty; ($($safe:tt)*); ($($raw:tt)*); ($($pass:tt)*); $arg:ident : [$t:ty], $($more:tt)*) => {
+        exported!(@one $name $symbol $result; ($($safe)* $arg: &[$t],); ($($raw)* $arg: *const $t, _: usize,);
+            ($($pass)* $arg.as_ptr(), $arg.len(),); $($more)*);
+    };
+    (@one $name:ident $symbol:ident $result:ty; ($($safe:tt)*); ($($raw:tt)*); ($($pass:tt)*); $arg:ident : $t:ty, $($more:tt)*) => {
+        exported!(@one $name $symbol $result; ($($safe)* $arg: $t,); ($($raw)* $arg: $t,); ($($pass)* $arg,); $($more)*);
+    };
+    (@one $name:ident $symbol:ident $result:ty; ($($safe:tt)*); ($($raw:tt)*); ($($pass:tt)*);) => {
+        #[inline]
+        #[allow(clippy::too_many_arguments)]
+        pub fn $name($($safe)*) -> $result {
+            unsafe extern "C" {
+                fn $symbol($($raw)*) -> $result;
+            }
+            unsafe { $symbol($($pass)*) }
+        }
+    };
+}
+
+exported! {
+    len = census_len(n: usize, r: usize,) -> Rank;
+    full_rack_start = census_full_rack_start(n: usize, r: usize,) -> Rank;
+    size_start = census_size_start(n: usize, r: usize, s: usize,) -> Rank;
+    rank = census_rank(n: usize, r: usize, tally: [u8],) -> Rank;
+    rank_bytes = census_rank_bytes(n: usize, r: usize, tiles: [u8],) -> Rank;
+    rank_sparse = census_rank_sparse(n: usize, r: usize, s: usize, letters: [u8], counts: [u8],) -> Rank;
+    unrank_into = census_unrank_into(n: usize, r: usize, idx: usize, out: mut [u8],) -> u8;
+    pascal_rows = census_pascal_rows(rows: usize, out: mut [u64],) -> u8;
+    fill_add = census_fill_add(n: usize, r: usize, add: mut [u32],) -> u8;
+    fill_by_letter = census_fill_by_letter(n: usize, r: usize, add: [u32], by_letter: mut [u32],) -> u8;
+    letter = census_letter(n: usize, r: usize, by_letter: [u32], t: usize,) -> Part;
+    best_equity_of = census_best_equity_of(n: usize, r: usize, sheet: [i32], leave: [i32], tally: [u8],) -> Equity;
+    best_equity_table = census_best_equity_table(n: usize, r: usize, sheet: [i32], leave: [i32], out: mut [i32],) -> u8;
+    best_keep_of = census_best_keep_of(n: usize, r: usize, leave: [i32], tally: [u8], keep: usize,) -> Leave;
+    record_blank_variants = census_record_blank_variants(n: usize, r: usize, sheet: mut [i32], score: i32, letters: mut [u8],
+        drops: mut [i32], unseen: [u8], blanks: usize,) -> u8;
+}
