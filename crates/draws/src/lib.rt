@@ -3,7 +3,7 @@ ghost use mathlib.Core.Path.{_≡_};
 ghost use mathlib.Core.Bool.{true};
 ghost use Prim.Native.Nat.{ℕ, _+_};
 ghost use lib.ListN.{length};
-ghost use Rattle.lattice.specs.Binomial.{binomial, Binomials};
+ghost use Rattle.lattice.specs.Binomial.{binomial};
 ghost use Rattle.lattice.specs.Answers.{served};
 ghost use Rattle.lattice.specs.AddRows.{Decides};
 ghost use Rattle.draws.specs.Draws.{Fills, Passed, Judged, Valued};
@@ -11,7 +11,6 @@ use lattice::Lattice;
 use lattice::Ranked;
 use lattice::add::add_is_right;
 use lattice::start_of;
-use lattice::table::binomials;
 use sums::weight::tiles_in;
 use sums::weight::weight;
 use sums::weight::within_limit;
@@ -28,8 +27,8 @@ pub enum Drawn {
 }
 
 // Whether the multiset at a rank makes a full rack with so many tiles more.
-fn fills(table: &[u64; 1105], n: usize, r: usize, s_ridx: usize, draw: usize) -> bool
-    requires { ⌜ Binomials (now table) × (served n r ≡ true) ⌝ }
+fn fills(n: usize, r: usize, s_ridx: usize, draw: usize) -> bool
+    requires { ⌜ served n r ≡ true ⌝ }
     ensures { λ b. ⌜ Decides b (Fills n r «s_ridx» draw) ⌝ }
 {
     if r < draw {
@@ -37,10 +36,10 @@ fn fills(table: &[u64; 1105], n: usize, r: usize, s_ridx: usize, draw: usize) ->
     }
     let s = r - draw;
     let at = s_ridx as u64;
-    if at < start_of(table, n, s) {
+    if at < start_of(n, s) {
         return false;
     }
-    at < start_of(table, n, s + 1)
+    at < start_of(n, s + 1)
 }
 
 // The number of the refusal, for sizes that are served and so many multisets, as far as lengths, the leave and the table of ranks tell.
@@ -57,8 +56,7 @@ fn judge(
     requires { ⌜ (served n r ≡ true) × (size ≡ binomial (n + r) n) ⌝ }
     ensures { λ k. ⌜ Judged n r (now (add .entry)) (now («full_v» .entry)) (now (pool .entry)) «s_ridx» draw k ⌝ }
 {
-    let table = binomials();
-    let rows = start_of(&table, n, r) as usize;
+    let rows = start_of(n, r) as usize;
     if add.len() != rows * n {
         return 2;
     }
@@ -68,7 +66,7 @@ fn judge(
     if pool.len() != n {
         return 2;
     }
-    if fills(&table, n, r, s_ridx, draw) {
+    if fills(n, r, s_ridx, draw) {
         if add_is_right(n, r, add) {
             return 0;
         }

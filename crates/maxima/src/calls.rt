@@ -11,7 +11,6 @@ use lattice::Lattice;
 use lattice::Ranked;
 use lattice::add::tables_are_right;
 use lattice::start_of;
-use lattice::table::binomials;
 
 // Whether tables and slices with so many entries have the lengths of a lattice of n letters, so many leaves and so many multisets.
 fn lengths_fit(
@@ -56,8 +55,7 @@ fn transform(
     requires { ⌜ (served n r ≡ true) × (size ≡ length (lattice n r)) ⌝ }
     ensures { λ b. ⌜ SubsetMaxed n r (now (add .entry)) (now («by_letter» .entry)) (now (src .entry)) (now (dst .entry)) b (now (dst .exit)) ⌝ }
 {
-    let t = binomials();
-    let rows = start_of(&t, n, r) as usize;
+    let rows = start_of(n, r) as usize;
     if !lengths_fit(
         n,
         r,

@@ -17,10 +17,10 @@ returns c =
 
 -- the sizes
 sizes : (c : tie.Else1) → Served (c .before .args .n) (c .before .args .r)
-sizes c = facts (c .before .args .n) (c .before .args .r) (c .before .pre .1)
+sizes c = facts (c .before .args .n) (c .before .args .r) (c .before .pre)
 
 start-of-requires : tie.Need-start-of-requires
-start-of-requires c κs = (c .before .pre .0, sizes c .letters, omega (arith, sizes c .tiles))
+start-of-requires c κs = (sizes c .letters, omega (arith, sizes c .tiles))
 
 returns-2 : tie.Need-returns-2
 returns-2 c =
@@ -31,7 +31,7 @@ add-start-of : tie.Need-add-start-of
 add-start-of c = omega (arith, sizes (c .before .before) .tiles)
 
 start-of-requires-2 : tie.Need-start-of-requires-2
-start-of-requires-2 c κs = (c .before .before .before .pre .0, sizes (c .before .before) .letters, omega (arith, sizes (c .before .before) .tiles))
+start-of-requires-2 c κs = (sizes (c .before .before) .letters, omega (arith, sizes (c .before .before) .tiles))
 
 returns-3 : tie.Need-returns-3
 returns-3 c =
