@@ -1,0 +1,67 @@
+// What guards the sums: the number of hands as far as an f64 can hold it, the limit on it, and tables that are clear on entry.
+ghost use mathlib.Core.Path.{_≡_};
+ghost use mathlib.Core.Bool.{true, false};
+ghost use Prim.Native.Nat.{_*_, _≤_, _<_, _^_};
+ghost use lib.ListN.{length};
+ghost use Rattle.lattice.specs.Tally.{total};
+ghost use Rattle.sums.specs.Weight.{weightOf, Clear};
+
+// How many tiles a pool has.
+pub fn tiles_in(pool: &[u8]) -> usize
+    requires { ⌜ length (now pool) ≤ 64 ⌝ }
+    ensures { λ r. ⌜ r ≡ total (now (pool .entry)) ⌝ }
+{
+    let mut tiles: usize = 0;
+    for i in 0..pool.len() {
+        tiles += pool[i] as usize;
+    }
+    tiles
+}
+
+// C(tiles, k), and 2^53 + 1 where it is above 2^53. Where it first is above, it stays so up to k: with k to 15 and so many tiles
+// the binomials ascend.
+pub fn weight(tiles: usize, k: usize) -> u64
+    requires { ⌜ k ≤ 15 ⌝ }
+    ensures { λ r. ⌜ r ≡ weightOf tiles k ⌝ }
+{
+    if tiles < k {
+        return 0;
+    }
+    let mut b: u64 = 1;
+    let mut j: usize = 1;
+    while j <= k {
+        let m = (tiles - (j - 1)) as u64;
+        if 9223372036854775808 / m < b {
+            return 9007199254740993;
+        }
+        b = b * m / j as u64;
+        if 9007199254740992 < b {
+            return 9007199254740993;
+        }
+        j += 1;
+    }
+    b
+}
+
+// Whether weight * most is at most 2^53.
+pub fn within_limit(weight: u64, most: u64) -> bool
+    requires { ⌜ 0 < most ⌝ }
+    ensures { λ b. ⌜ (b ≡ true → weight * most ≤ 2 ^ 53) × (weight * most ≤ 2 ^ 53 → b ≡ true) ⌝ }
+{
+    weight <= 9007199254740992 / most
+}
+
+// Whether every entry is +0.0.
+pub fn all_clear(xs: &[f64]) -> bool
+    ensures { λ b. ⌜ (b ≡ true → Clear (now (xs .entry))) × (b ≡ false → Clear (now (xs .entry)) → ⊥) ⌝ }
+{
+    let mut i: usize = 0;
+    while i < xs.len() {
+        if whole::is_clear(xs[i]) {
+            i += 1;
+        } else {
+            return false;
+        }
+    }
+    true
+}
