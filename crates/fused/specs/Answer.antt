@@ -1,5 +1,5 @@
 -- What a call of apportion_fused answers, for every input, and what it leaves in each slice. Document 01's sentences stand in quotes. Assumes nothing.
-use Prim.Native.Nat.{ℕ, _+_, _-_, _*_, _^_, _≤_, _<_, max}
+use Prim.Native.Nat.{ℕ, _+_, _-_, _*_, _^_, _≤_, max}
 use mathlib.Core.Bool.{Bool, true, false, cond, not, _&&_}
 use mathlib.Core.List.{List, [], _∷_}
 use mathlib.Core.Logic.{_⊎_}
@@ -20,6 +20,7 @@ use Rattle.search.specs.Split.{Bounded, bestOf, bestSplit}
 use Rattle.maxima.specs.Judge.{SubsetMax}
 use Rattle.scatter.specs.Scatter.{scatterAt}
 use Rattle.scatter.specs.Every.{IsScatter}
+use Rattle.sums.specs.Weight.{Clear}
 use Rattle.fused.specs.Splits.{Split}
 use Rattle.fused.specs.ZetaSums.{Summed}
 use Rattle.fused.specs.declared.mode.Mode.{Mode}
@@ -107,9 +108,6 @@ pub record Words (g : Input) : Type 0 where
   pub is-max : SubsetMax (g .n) (g .r) (g .leave) (g .leave-max)
 
 -- 8, "num, den or ways not +0.0"
-abbrev pub Clear : List Float → Type 0
-Clear xs = (k : ℕ) → k < length xs → getD xs k nan ≡ whole (pos 0)
-
 pub record Cleared (o : Lent) : Type 0 where
   pub clear-num : Clear (o .num)
   pub clear-den : Clear (o .den)
