@@ -1,7 +1,8 @@
 // What guards the sums: the number of hands as far as an f64 can hold it, the limit on it, and tables that are clear on entry.
 ghost use mathlib.Core.Path.{_≡_};
 ghost use mathlib.Core.Bool.{true, false};
-ghost use Prim.Native.Nat.{_*_, _≤_, _<_, _^_};
+ghost use Prim.Native.Nat.{_*_, _≤_, _<_, _^_, max};
+ghost use lib.IntN.{natAbs};
 ghost use lib.ListN.{length};
 ghost use Rattle.lattice.specs.Tally.{total};
 ghost use Rattle.sums.specs.Weight.{weightOf, Clear};
@@ -41,6 +42,26 @@ pub fn weight(tiles: usize, k: usize) -> u64
         j += 1;
     }
     b
+}
+
+// The size of a number.
+fn size_of(x: i32) -> u64
+    ensures { λ r. ⌜ r ≡ natAbs x ⌝ }
+{
+    let wide = x as i64;
+    if wide < 0 {
+        (-wide) as u64
+    } else {
+        wide as u64
+    }
+}
+
+// The larger of most and of the size of a number.
+pub fn larger(most: u64, x: i32) -> u64
+    ensures { λ r. ⌜ r ≡ max most (natAbs x) ⌝ }
+{
+    let size = size_of(x);
+    if most < size { size } else { most }
 }
 
 // Whether weight * most is at most 2^53.
