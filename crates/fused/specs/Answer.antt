@@ -102,16 +102,22 @@ abbrev pub Ranks : Input → Type 0
 Ranks g = Tables (g .n) (g .r) (g .add) (g .by-letter)
 
 -- 7, "scatter in force: sheet negative, sheet[0] not 0, or leave_max not leave's subset maximum"
-pub record Words (g : Input) : Type 0 where
-  pub nonnegative : (i : ℕ) → pos 0 ≤ℤ atℤ (g .sheet) i
-  pub no-tiles : atℤ (g .sheet) 0 ≡ pos 0
-  pub is-max : SubsetMax (g .n) (g .r) (g .leave) (g .leave-max)
+pub record WordSheet (sheet : List ℤ) : Type 0 where
+  pub nonnegative : (i : ℕ) → pos 0 ≤ℤ atℤ sheet i
+  pub no-tiles : atℤ sheet 0 ≡ pos 0
+
+pub record Words (n r : ℕ) (sheet leave leave-max : List ℤ) : Type 0 where
+  pub word-sheet : WordSheet sheet
+  pub is-max : SubsetMax n r leave leave-max
+
+abbrev pub Scatters : Input → Type 0
+Scatters g = inForce (g .mode) ≡ true → Words (g .n) (g .r) (g .sheet) (g .leave) (g .leave-max)
 
 -- 8, "num, den or ways not +0.0"
-pub record Cleared (o : Lent) : Type 0 where
-  pub clear-num : Clear (o .num)
-  pub clear-den : Clear (o .den)
-  pub clear-deals : Clear (o .deals)
+pub record Cleared (num den deals : List Float) : Type 0 where
+  pub clear-num : Clear num
+  pub clear-den : Clear den
+  pub clear-deals : Clear deals
 
 -- the largest absolute entry
 unfoldable pub largest : List ℤ → ℕ
@@ -132,14 +138,14 @@ pub record Sound (g : Input) : Type 0 where
   pub lengths : ReadLengths g
   pub entries : Entries g
   pub ranks : Ranks g
-  pub words : inForce (g .mode) ≡ true → Words g
+  pub words : Scatters g
   pub limit : Limit g
 
 -- nor to what is written
 pub record Accepted (g : Input) (o : Lent) : Type 0 where
   pub sound : Sound g
   pub lengths : LentLengths (g .n) (g .r) o
-  pub cleared : Cleared o
+  pub cleared : Cleared (o .num) (o .den) (o .deals)
 
 -- "The lowest number that applies is given", 0 where none does
 pub data FusedNumber (g : Input) (o : Lent) : ℕ → Type 0 where
@@ -148,9 +154,9 @@ pub data FusedNumber (g : Input) (o : Lent) : ℕ → Type 0 where
   lengths : served (g .n) (g .r) ≡ true → (Lengths g o → ⊥) → FusedNumber g o 2
   entries : served (g .n) (g .r) ≡ true → Lengths g o → (Entries g → ⊥) → FusedNumber g o 5
   ranks : served (g .n) (g .r) ≡ true → Lengths g o → Entries g → (Ranks g → ⊥) → FusedNumber g o 6
-  words : served (g .n) (g .r) ≡ true → Lengths g o → Entries g → Ranks g → inForce (g .mode) ≡ true → (Words g → ⊥) → FusedNumber g o 7
-  cleared : served (g .n) (g .r) ≡ true → Lengths g o → Entries g → Ranks g → (inForce (g .mode) ≡ true → Words g) → (Cleared o → ⊥) → FusedNumber g o 8
-  limit : served (g .n) (g .r) ≡ true → Lengths g o → Entries g → Ranks g → (inForce (g .mode) ≡ true → Words g) → Cleared o → (Limit g → ⊥) → FusedNumber g o 9
+  words : served (g .n) (g .r) ≡ true → Lengths g o → Entries g → Ranks g → (Scatters g → ⊥) → FusedNumber g o 7
+  cleared : served (g .n) (g .r) ≡ true → Lengths g o → Entries g → Ranks g → Scatters g → (Cleared (o .num) (o .den) (o .deals) → ⊥) → FusedNumber g o 8
+  limit : served (g .n) (g .r) ≡ true → Lengths g o → Entries g → Ranks g → Scatters g → Cleared (o .num) (o .den) (o .deals) → (Limit g → ⊥) → FusedNumber g o 9
 
 -- ---- what an accepted call leaves
 

@@ -110,8 +110,8 @@ split-most sheet leave n A B a b t =
 
 module _ {g : Input} (d : Sound g) (R : List ℕ) (fits : Fits (g .n) (g .r) R) (drawn : T (holds (g .pool) R)) where
   -- with scatter in force it is the best split too
-  scatter-is : Words g → scatterAt (g .sheet) (g .leave) (g .pool) (g .n) (g .leave-max) R ≡ bestSplit (g .sheet) (g .leave) (g .n) R
-  scatter-is w = scatter-best (g .sheet) (g .leave) (g .leave-max) (g .pool) (g .n) (g .r) (w .nonnegative) (w .is-max) R (fits .letters) (fits .tiles) drawn
+  scatter-is : Words (g .n) (g .r) (g .sheet) (g .leave) (g .leave-max) → scatterAt (g .sheet) (g .leave) (g .pool) (g .n) (g .leave-max) R ≡ bestSplit (g .sheet) (g .leave) (g .n) R
+  scatter-is w = scatter-best (g .sheet) (g .leave) (g .leave-max) (g .pool) (g .n) (g .r) (w .word-sheet .nonnegative) (w .is-max) R (fits .letters) (fits .tiles) drawn
 
   -- at most the largest sheet and the largest leave, by any bounds of theirs
   best-most : (A B : ℕ) → Bounded A (g .sheet) → Bounded B (g .leave) → natAbs (modeBest g R) ≤ A + B
