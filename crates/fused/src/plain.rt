@@ -29,7 +29,7 @@ fn spread_rack(
     let w = ways[k];
     if 0.0 < w {
         let at = lo + k;
-        unrank_within(table, r, at as u64, tally);
+        unrank_within(r, at as u64, tally);
         let b = best[at];
         let value = w * (b as f64);
         spread(table, tally, value, w, num, den);

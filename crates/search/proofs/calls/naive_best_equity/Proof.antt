@@ -61,7 +61,7 @@ below c = subst (λ (x : ℤ). x <ℤ pos 2147483647) (same (c .before .before))
 above-leave-requires : tie.Need-above-leave-requires
 above-leave-requires c κs =
     let a = c .before .before .before .before .before .before .before .before .before .before .before .before .before .before .before .before .args in
-    (c .before .before .before .before .before .before .before .before .before .before .before .binomials .ensures, rest-ready (a .lat .n) (a .lat .r) (a .sheet .now) (a .leave .now) (a .tally .now) (a .kept .now) (sizes (c .before .before .before .before .before .before .before .before .before .before .before .before)) (c .before .before .before .before .before .before .before .before .before .best-first .ensures) (below (c .before .before .before .before .before .before .before)) (c .before .before .before .before .write-kept .ensures))
+    rest-ready (a .lat .n) (a .lat .r) (a .sheet .now) (a .leave .now) (a .tally .now) (a .kept .now) (sizes (c .before .before .before .before .before .before .before .before .before .before .before .before)) (c .before .before .before .before .before .before .before .before .before .best-first .ensures) (below (c .before .before .before .before .before .before .before)) (c .before .before .before .before .write-kept .ensures)
 
 same-length : tie.Need-same-length
 same-length c = search needs
