@@ -29,6 +29,7 @@ use Rattle.search.specs.declared.calls.Move.{Move}
 
 -- ---- best_equity_of
 
+-- an accepted call's value is the best that the contract names
 pub equity-best : {k : ℕ} {v : ℤ} {b : Best} → Answered k v b → bestNumber b ≡ 0 → bestValue b ≡ v
 unfolding given
 equity-best h e = h .valued ∙ rw (sym (h .numbered) ∙ e)
@@ -81,11 +82,11 @@ module _ {n r : ℕ} {sheet leave : List ℤ} {t entry exit : List ℕ} {b : Mov
     unfolding given
     kind-played = h .kind ∙ rw (no-refusal, ← played-is)
 
-  -- the two searches of one rack agree, where the slice for the kept tally has n counts
   same-refusal : length entry ≡ n → refusal n r sheet leave t entry ≡ rackNumber n r sheet leave t
   unfolding rackNumber naiveNumber
   same-refusal l = ap (λ (k : ℕ). orElse k (entriesNumber sheet leave n t)) (sym (sizes-same n r (length sheet) (length leave) t (length entry) l))
 
+  -- the two searches of one rack agree, where the slice for the kept tally has n counts
   pub searches-agree : {a : Best} → Answered (rackNumber n r sheet leave t) (bestSplit sheet leave n t) a → length entry ≡ n → (moveNumber b ≡ bestNumber a) × (moveValue b ≡ bestValue a)
   searches-agree a l = (
     h .numbered ∙ same-refusal l ∙ sym (a .numbered),
