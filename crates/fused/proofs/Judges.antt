@@ -1,11 +1,11 @@
 -- Laws that the proofs of the judges cite. Assumes nothing.
-use Prim.Native.Nat.{ℕ, zero, suc, _+_, _-_, _*_, _^_, _≤_, _<_, max}
-use mathlib.Core.Bool.{Bool, true, false}
+use Prim.Native.Nat.{ℕ, _+_, _-_, _*_, _^_, _≤_, _<_, max}
+use mathlib.Core.Bool.{true, false}
 use mathlib.Core.List.{List, [], _∷_, _++_}
 use mathlib.Core.Path.{_≡_, refl, sym, ap, ap₂, subst, _∙_}
 use lib.IntN.{ℤ, pos, natAbs}
-use lib.ListN.{length, getD, take, List·getD-eq-default}
-use lib.Signed.{ltZ, _≤ℤ_, ≤ℤ-refl}
+use lib.ListN.{length, take, List·getD-eq-default}
+use lib.Signed.{ltZ, _≤ℤ_}
 use native.Mathlib.Decide.{decLt}
 use lib.Seq.{take-suc}
 use native.Mathlib.Nat.{le-trans}

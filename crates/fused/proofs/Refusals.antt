@@ -7,7 +7,7 @@ use Rattle.lattice.specs.Answers.{served, fullRackStartAnswer}
 use Rattle.lattice.specs.Tally.{start}
 use Rattle.lattice.specs.declared.Ranked.{Ranked}
 use Rattle.lattice.specs.declared.Ranked.the-variants.{At, Refused}
-use Rattle.fused.specs.Answer.{Input, Lent, Accepted, FusedNumber, Fused}
+use Rattle.fused.specs.Answer.{Input, Lent, FusedNumber, Fused}
 
 -- what the start of the full racks says of the sizes
 pub started : (n r : ℕ) {x : Ranked} {k : ℕ} → x ≡ fullRackStartAnswer n r → x ≡ At k → (served n r ≡ true) × (k ≡ start n r)
@@ -25,17 +25,6 @@ not-started n r {x} {k} e f = by (served n r) refl (sym f ∙ e)
     by : (b : Bool) → served n r ≡ b → Refused k ≡ cond b (At (start n r)) (Refused 1) → served n r ≡ false
     by true s q = absurd (let z : _≡_ {A = ℕ} 0 1 = cc in omega arith)
     by false s q = s
-
--- a number of 0 is that of an accepted call
-pub accepted-of : {g : Input} {o : Lent} {k : ℕ} → FusedNumber g o k → k ≡ 0 → Accepted g o
-accepted-of (FusedNumber.accepted a) e = a
-accepted-of (FusedNumber.sizes _) e = absurd (omega arith)
-accepted-of (FusedNumber.lengths _ _) e = absurd (omega arith)
-accepted-of (FusedNumber.entries _ _ _) e = absurd (omega arith)
-accepted-of (FusedNumber.ranks _ _ _ _) e = absurd (omega arith)
-accepted-of (FusedNumber.words _ _ _ _ _) e = absurd (omega arith)
-accepted-of (FusedNumber.cleared _ _ _ _ _ _) e = absurd (omega arith)
-accepted-of (FusedNumber.limit _ _ _ _ _ _ _) e = absurd (omega arith)
 
 -- a refused call leaves the slices as they are
 pub refused : {g : Input} {o : Lent} {k : ℕ} → FusedNumber g o k → (k ≡ 0 → ⊥) → Fused g o k o

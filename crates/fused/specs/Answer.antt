@@ -8,6 +8,7 @@ use lib.Ieee.{Float, nan}
 use lib.IntN.{ℤ, pos, natAbs}
 use lib.ListN.{length, getD}
 use lib.Signed.{_≤ℤ_}
+use native.Mathlib.Omega.{arith}
 use Rattle.laws.specs.Integer.{atℤ}
 use Rattle.whole.specs.Whole.{whole}
 use Rattle.lattice.specs.Answers.{served}
@@ -157,6 +158,17 @@ pub data FusedNumber (g : Input) (o : Lent) : ℕ → Type 0 where
   words : served (g .n) (g .r) ≡ true → Lengths g o → Entries g → Ranks g → (Scatters g → ⊥) → FusedNumber g o 7
   cleared : served (g .n) (g .r) ≡ true → Lengths g o → Entries g → Ranks g → Scatters g → (Cleared (o .num) (o .den) (o .deals) → ⊥) → FusedNumber g o 8
   limit : served (g .n) (g .r) ≡ true → Lengths g o → Entries g → Ranks g → Scatters g → Cleared (o .num) (o .den) (o .deals) → (Limit g → ⊥) → FusedNumber g o 9
+
+-- a number of 0 is that of an accepted call
+pub accepted-of : {g : Input} {o : Lent} {k : ℕ} → FusedNumber g o k → k ≡ 0 → Accepted g o
+accepted-of (accepted a) e = a
+accepted-of (sizes _) e = absurd (omega arith)
+accepted-of (lengths _ _) e = absurd (omega arith)
+accepted-of (entries _ _ _) e = absurd (omega arith)
+accepted-of (ranks _ _ _ _) e = absurd (omega arith)
+accepted-of (words _ _ _ _ _) e = absurd (omega arith)
+accepted-of (cleared _ _ _ _ _ _) e = absurd (omega arith)
+accepted-of (limit _ _ _ _ _ _ _) e = absurd (omega arith)
 
 -- ---- what an accepted call leaves
 

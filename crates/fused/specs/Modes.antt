@@ -1,28 +1,25 @@
 -- The best that a mode takes for a full rack: which it is, how large it is, and that maxsheet has it. Assumes nothing.
-use Prim.Native.Nat.{ℕ, zero, suc, _+_, _^_, _≤_, _<_, max}
-use mathlib.Core.Bool.{Bool, true, false, cond, not, _&&_}
+use Prim.Native.Nat.{ℕ, zero, suc, _+_, _^_, _≤_, _<_}
+use mathlib.Core.Bool.{Bool, true, false, not, _&&_}
 use mathlib.Core.List.{List, [], _∷_}
-use mathlib.Core.Path.{_≡_, refl, sym, ap, _∙_, subst}
+use mathlib.Core.Path.{_≡_, refl, sym, ap, _∙_, subst, fun-ext}
 use lib.Dec.{T}
-use lib.IntN.{ℤ, pos, natAbs}
-use lib.ListN.{length, getD}
+use lib.IntN.{ℤ, pos, natAbs, _+ℤ_, +ℤ-idr}
 use lib.Signed.{_≤ℤ_}
-use native.Mathlib.Nat.{le-refl, le-trans, le-of-eq}
+use native.Mathlib.Nat.{le-trans, le-of-eq}
 use native.Mathlib.Omega.{arith}
 use Rattle.laws.specs.Every.{every-at}
 use Rattle.laws.specs.Greatest.{GreatestOver}
 use Rattle.laws.specs.Integer.{atℤ, ≤ℤ-antisym, natAbs-+ℤ}
-use Rattle.laws.specs.Tests.{T→true}
 use Rattle.lattice.specs.Tally.{rankOf, minus, parts}
 use Rattle.lattice.specs.Tallies.{Fits}
 use Rattle.lattice.specs.Parts.{Within-refl, parts-all}
 use Rattle.hands.specs.Hands.{holds}
 use Rattle.search.specs.Split.{Bounded, worth, bestOf, bestSplit}
 use Rattle.search.specs.Best.{bestOf-attained, bestOf-bound, best-attained}
-use Rattle.maxima.specs.Judge.{SubsetMax}
 use Rattle.scatter.specs.Scatter.{scatterAt}
 use Rattle.scatter.specs.BestSplit.{scatter-best}
-use Rattle.fused.specs.Splits.{Split, split-at}
+use Rattle.fused.specs.Splits.{split-at}
 use Rattle.fused.specs.Answer.{Input, sheetAlone, inForce, subsetBest, modeBest, Words, Sound, largest, most, Bests}
 use Rattle.fused.specs.declared.mode.Mode.{Mode}
 
@@ -106,6 +103,13 @@ split-most sheet leave n A B a b t =
     let w = best-attained sheet leave n t in
     le-trans (le-of-eq (ap natAbs (sym (w .2)))) (natAbs-+ℤ (atℤ sheet (rankOf n (w .0))) (atℤ leave (rankOf n (minus t (w .0)))) (a (rankOf n (w .0))) (b (rankOf n (minus t (w .0)))))
 
+-- where no leave is worth anything it is the subset maximum of sheet
+null-best : (sheet leave : List ℤ) (n : ℕ) (R : List ℕ) → ((i : ℕ) → atℤ leave i ≡ pos 0) → subsetBest sheet n R ≡ bestSplit sheet leave n R
+unfolding subsetBest bestSplit worth
+null-best sheet leave n R none =
+    ap (λ (f : List ℕ → ℤ). bestOf f (parts R))
+    (fun-ext (λ P. sym (ap (λ (x : ℤ). atℤ sheet (rankOf n P) +ℤ x) (none (rankOf n (minus R P))) ∙ +ℤ-idr (atℤ sheet (rankOf n P)))))
+
 -- ---- how large it is, at a full rack that can be drawn
 
 module _ {g : Input} (d : Sound g) (R : List ℕ) (fits : Fits (g .n) (g .r) R) (drawn : T (holds (g .pool) R)) where
@@ -131,6 +135,15 @@ module _ {g : Input} (d : Sound g) (R : List ℕ) (fits : Fits (g .n) (g .r) R) 
 
   pub mode-range : natAbs (modeBest g R) < 2 ^ 31
   mode-range = let h = best-most 536870911 536870911 (d .entries .sheet-bound) (d .entries .leave-bound) in omega arith
+
+  -- it is the best split, in every mode; where sheet is taken alone, if no leave is worth anything
+  pub mode-split : (sheetAlone (g .mode) ≡ true → (i : ℕ) → atℤ (g .leave) i ≡ pos 0) → modeBest g R ≡ bestSplit (g .sheet) (g .leave) (g .n) R
+  mode-split none = by (kind (g .mode))
+    where
+      by : Kind (g .mode) → modeBest g R ≡ bestSplit (g .sheet) (g .leave) (g .n) R
+      by (alone e) = best-alone g R e ∙ null-best (g .sheet) (g .leave) (g .n) R (none e)
+      by (scattered e f) = best-scattered g R e f ∙ scatter-is (d .words f)
+      by (split e f) = best-split g R e f
 
   -- maxsheet has it
   pub mode-at : {a b : List ℤ} → Bests g a b → atℤ b (rankOf (g .n) R) ≡ modeBest g R

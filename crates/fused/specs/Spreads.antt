@@ -3,7 +3,6 @@ use Prim.Native.Nat.{ℕ, zero, suc, _+_, _-_, _*_, _^_, _≤_, _<_}
 use mathlib.Core.Bool.{Bool, true, false, cond}
 use mathlib.Core.List.{List, [], _∷_, _++_}
 use mathlib.Core.Path.{_≡_, refl, sym, ap, ap₂, _∙_}
-use lib.Dec.{T}
 use lib.Ieee.{Float, nan, lt, ofBits, binary64, add as addF}
 use lib.IntN.{ℤ, pos, natAbs, _+ℤ_, _*ℤ_, +ℤ-idr, zero-*ℤ}
 use lib.ListN.{length, getD, take, drop, take-append-drop}
@@ -14,10 +13,9 @@ use native.Mathlib.Omega.{arith}
 use Rattle.laws.specs.Every.{every, every-member}
 use Rattle.laws.specs.Loops.{ascend}
 use Rattle.laws.specs.Sums.{naturals, integers, sumOver, sumOverℤ, sum-append, sum-le, sum-weights, sum-bound}
-use Rattle.laws.specs.Integer.{natAbs-add}
-use Rattle.whole.specs.Whole.{whole, Small}
+use Rattle.whole.specs.Whole.{whole}
 use Rattle.lattice.specs.Binomial.{binomial, monotone}
-use Rattle.lattice.specs.Tally.{total, tallies, start, within, rankOf, tallyAt, rank-is}
+use Rattle.lattice.specs.Tally.{total, tallies, start, rankOf, tallyAt, rank-is}
 use Rattle.lattice.specs.Tallies.{Fits, tally-at-fits, tallies-fit, within-at}
 use Rattle.lattice.specs.Lattice.{block-at}
 use Rattle.lattice.specs.Answers.{served, TallyAt}

@@ -1,5 +1,4 @@
 -- `fused::calls::apportion_fused` meets its contract. Assumes nothing.
-use mathlib.Core.Path.{_≡_, sym, _∙_}
 use native.Mathlib.Omega.{arith}
 use borrow.Author.Needs.{needs}
 use Rattle.fused.specs.Answer.{FusedNumber}

@@ -1,5 +1,5 @@
 -- `fused::calls::apportion_served` meets its contract: a refusal touches nothing, and no refusal leaves the work to be done. Assumes nothing.
-use mathlib.Core.Path.{_≡_, sym, ap, _∙_}
+use mathlib.Core.Path.{sym, ap, _∙_}
 use lib.Seq.{length-take-le}
 use native.Mathlib.Numerals.{add-one}
 use native.Mathlib.Omega.{arith}
@@ -7,7 +7,8 @@ use borrow.Author.Needs.{needs}
 use Rattle.lattice.specs.Lattice.{length-lattice-start}
 use Rattle.lattice.specs.Served.{facts}
 use Rattle.lattice.specs.Tally.{start}
-use Rattle.fused.proofs.Refusals.{accepted-of, refused}
+use Rattle.fused.specs.Answer.{accepted-of}
+use Rattle.fused.proofs.Refusals.{refused}
 use Rattle.fused.proofs.calls.apportion_served.Statement.{statement}
 use Rattle.fused.proofs.calls.apportion_served.Tie as tie
 

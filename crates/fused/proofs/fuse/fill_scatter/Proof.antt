@@ -1,5 +1,4 @@
 -- `fused::fuse::fill_scatter` meets its contract: the scatter starts from leave_max. Assumes nothing.
-use mathlib.Core.Path.{_≡_}
 use borrow.Author.Needs.{needs}
 use Rattle.fused.proofs.fuse.fill_scatter.Statement.{statement}
 use Rattle.fused.proofs.fuse.fill_scatter.Tie as tie

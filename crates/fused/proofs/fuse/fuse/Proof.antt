@@ -1,5 +1,5 @@
 -- `fused::fuse::fuse` meets its contract: the sums are folded or spread over the same ways and bests. Assumes nothing.
-use mathlib.Core.Path.{_≡_, _∙_}
+use mathlib.Core.Path.{_∙_}
 use Rattle.fused.specs.Fuse.{ranks-rise, ranks-same, pool-fits, deals-after, fold-sized, fold-after, spreading, spread-after}
 use borrow.Author.Needs.{needs}
 use Rattle.fused.proofs.fuse.fuse.Statement.{statement}

@@ -1,6 +1,5 @@
 -- `fused::judge::lent_fit` meets its contract. Assumes nothing.
 use mathlib.Core.Path.{sym, _∙_}
-use native.Mathlib.Omega.{arith}
 use Rattle.fused.proofs.Judges.{says-yes, says-no, racks-left}
 use Rattle.fused.proofs.judge.lent_fit.Statement.{statement}
 use Rattle.fused.proofs.judge.lent_fit.Tie as tie

@@ -1,5 +1,4 @@
 -- `fused::judge::refusal` meets its contract: the judges in the order of the numbers. Assumes nothing.
-use mathlib.Core.Path.{_≡_}
 use native.Mathlib.Omega.{arith}
 use borrow.Author.Needs.{needs}
 use borrow.Author.Tests.{not-true, not-false}

@@ -1,5 +1,5 @@
 -- `fused::judge::scatters` meets its contract. Assumes nothing.
-use mathlib.Core.Path.{_≡_, sym, _∙_}
+use mathlib.Core.Path.{sym, _∙_}
 use native.Mathlib.Omega.{arith}
 use borrow.Author.Needs.{needs}
 use borrow.Author.Tests.{not-true, not-false}
@@ -24,7 +24,8 @@ is-subset-max-requires : tie.Need-is-subset-max-requires
 is-subset-max-requires c κs =
     let s = c .before .before .before .before .before in
     let size = length-lattice-start (s .args .n) (s .args .r) in
-    (record { leaves = s .pre .1; table = s .pre .2; in-d = s .pre .4 ∙ size; in-m = s .pre .5 (sym (c .before .before .before .in-force .ensures) ∙ c .before .before .if1 .taken) ∙ size }, s .pre .0)
+    let longest = s .pre .5 (sym (c .before .before .before .in-force .ensures) ∙ c .before .before .if1 .taken) in
+    (record { leaves = s .pre .1; table = s .pre .2; in-d = omega (arith, s .pre .4); in-m = omega arith }, s .pre .0)
 
 returns-2 : tie.Need-returns-2
 returns-2 c = says-yes (λ _. record { word-sheet = c .before .before .before .word-sheet .ensures .yes (not-false _ (c .before .before .if2 .left)); is-max = c .before .is-subset-max .ensures .yes (c .if3 .taken) })

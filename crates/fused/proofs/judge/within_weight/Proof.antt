@@ -1,6 +1,5 @@
 -- `fused::judge::within_weight` meets its contract. Assumes nothing.
-use mathlib.Core.Path.{_≡_, sym, _∙_}
-use native.Mathlib.Omega.{arith}
+use mathlib.Core.Path.{sym, _∙_}
 use borrow.Author.Needs.{needs}
 use Rattle.fused.specs.Modes.{true-false}
 use Rattle.fused.proofs.Judges.{says-yes, says-no, weight-within, weight-back}

@@ -1,6 +1,6 @@
 -- `fused::judge::word_sheet` meets its contract. The loop's invariant: the first entry is 0, and none that was passed is negative. Assumes nothing.
 use Prim.Native.Nat.{ℕ, _-_, _≤_, _<_}
-use mathlib.Core.Path.{_≡_, sym, ap, _∙_}
+use mathlib.Core.Path.{sym, ap, _∙_}
 use lib.IntN.{ℤ, pos}
 use lib.ListN.{length}
 use lib.Signed.{ltZ, _≤ℤ_}

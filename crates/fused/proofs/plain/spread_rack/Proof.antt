@@ -1,5 +1,5 @@
 -- `fused::plain::spread_rack` meets its contract. Assumes nothing.
-use mathlib.Core.Path.{_≡_, refl}
+use mathlib.Core.Path.{refl}
 use native.Mathlib.Omega.{arith}
 use lib.ListN.{length}
 use Rattle.sums.specs.Folds.{waysBest}
