@@ -60,29 +60,29 @@ below c = subst (λ (x : ℤ). x <ℤ pos 2147483647) (same (c .before .before))
 
 above-leave-requires : tie.Need-above-leave-requires
 above-leave-requires c κs =
-    let a = c .before .before .before .before .before .before .before .before .before .before .before .before .before .before .before .before .args in
-    rest-ready (a .lat .n) (a .lat .r) (a .sheet .now) (a .leave .now) (a .tally .now) (a .kept .now) (sizes (c .before .before .before .before .before .before .before .before .before .before .before .before)) (c .before .before .before .before .before .before .before .before .before .best-first .ensures) (below (c .before .before .before .before .before .before .before)) (c .before .before .before .before .write-kept .ensures)
+    let a = c .before .before .before .before .before .before .before .before .before .before .before .before .before .before .before .args in
+    rest-ready (a .lat .n) (a .lat .r) (a .sheet .now) (a .leave .now) (a .tally .now) (a .kept .now) (sizes (c .before .before .before .before .before .before .before .before .before .before .before)) (c .before .before .before .before .before .before .before .before .best-first .ensures) (below (c .before .before .before .before .before .before)) (c .before .before .before .write-kept .ensures)
 
 same-length : tie.Need-same-length
 same-length c = search needs
 
 -- the answer, by whether the best is above what is kept
-moved : (c : tie.After-above-leave) {b : Move} → b ≡ cond (c .above-leave .result) (Word (c .before .before .before .before .before .before .before .before .before .before .best-first .result .value)) (Exchange (c .before .before .before .before .before .before .before .before .before .before .best-first .result .value))
-    → Played (c .before .before .before .before .before .before .before .before .before .before .before .before .before .before .before .before .before .args .lat .n) (c .before .before .before .before .before .before .before .before .before .before .before .before .before .before .before .before .before .args .lat .r) (c .before .before .before .before .before .before .before .before .before .before .before .before .before .before .before .before .before .args .sheet .now) (c .before .before .before .before .before .before .before .before .before .before .before .before .before .before .before .before .before .args .leave .now) (c .before .before .before .before .before .before .before .before .before .before .before .before .before .before .before .before .before .args .tally .now) (c .before .before .before .before .before .before .before .before .before .before .before .before .before .before .before .before .before .args .kept .now) b (c .before .before .before .before .before .write-kept .last .1 .1 .0)
+moved : (c : tie.After-above-leave) {b : Move} → b ≡ cond (c .above-leave .result) (Word (c .before .before .before .before .before .before .before .before .before .best-first .result .value)) (Exchange (c .before .before .before .before .before .before .before .before .before .best-first .result .value))
+    → Played (c .before .before .before .before .before .before .before .before .before .before .before .before .before .before .before .before .args .lat .n) (c .before .before .before .before .before .before .before .before .before .before .before .before .before .before .before .before .args .lat .r) (c .before .before .before .before .before .before .before .before .before .before .before .before .before .before .before .before .args .sheet .now) (c .before .before .before .before .before .before .before .before .before .before .before .before .before .before .before .before .args .leave .now) (c .before .before .before .before .before .before .before .before .before .before .before .before .before .before .before .before .args .tally .now) (c .before .before .before .before .before .before .before .before .before .before .before .before .before .before .before .before .args .kept .now) b (c .before .before .before .before .write-kept .last .1 .1 .0)
 moved c e =
-    let a = c .before .before .before .before .before .before .before .before .before .before .before .before .before .before .before .before .before .args in
-    let v = c .before .before .before .before .before .before .before .before .before .before .best-first .result .value in
-    naive-moved (a .lat .n) (a .lat .r) (a .sheet .now) (a .leave .now) (a .tally .now) (a .kept .now) (sizes (c .before .before .before .before .before .before .before .before .before .before .before .before .before)) (c .before .before .before .before .before .before .before .before .before .before .best-first .ensures) (below (c .before .before .before .before .before .before .before .before)) (c .before .before .before .before .before .write-kept .ensures)
-    (e ∙ ap (λ (x : Bool). cond x (Word v) (Exchange v)) (rw (same (c .before .before .before .before .before .before .before .before .before .before)) at (c .above-leave .ensures)))
+    let a = c .before .before .before .before .before .before .before .before .before .before .before .before .before .before .before .before .args in
+    let v = c .before .before .before .before .before .before .before .before .before .best-first .result .value in
+    naive-moved (a .lat .n) (a .lat .r) (a .sheet .now) (a .leave .now) (a .tally .now) (a .kept .now) (sizes (c .before .before .before .before .before .before .before .before .before .before .before .before)) (c .before .before .before .before .before .before .before .before .before .best-first .ensures) (below (c .before .before .before .before .before .before .before)) (c .before .before .before .before .write-kept .ensures)
+    (e ∙ ap (λ (x : Bool). cond x (Word v) (Exchange v)) (rw (same (c .before .before .before .before .before .before .before .before .before)) at (c .above-leave .ensures)))
 
 returns-2 : tie.Need-returns-2
-returns-2 c = moved (c .before) (rw (c .if3 .taken) (ap Word (same (c .before .before .before .before .before .before .before .before .before .before .before))))
+returns-2 c = moved (c .before) (rw (c .if3 .taken) (ap Word (same (c .before .before .before .before .before .before .before .before .before .before))))
 
 same-length-2 : tie.Need-same-length-2
 same-length-2 c = search needs
 
 returns-3 : tie.Need-returns-3
-returns-3 c = moved (c .before) (rw (c .if3 .left) (ap Exchange (same (c .before .before .before .before .before .before .before .before .before .before .before))))
+returns-3 c = moved (c .before) (rw (c .if3 .left) (ap Exchange (same (c .before .before .before .before .before .before .before .before .before .before))))
 
 returns-4 : tie.Need-returns-4
 returns-4 c =
