@@ -6,7 +6,7 @@ use native.Mathlib.Nat.{add-sub-of-le}
 use lib.ListN.{length, getD, List·getD-append}
 use lib.Seq.{getD-append-add}
 use borrow.Author.Needs.{needs}
-use Rattle.binomials.specs.Entries.{rows-0, rows-13, rows-26, rows-39, rows-52}
+use Rattle.binomials.specs.Entries.{rows-0, rows-30, rows-42, rows-54}
 use Rattle.binomials.proofs.entry.Statement.{statement}
 use Rattle.binomials.proofs.entry.Tie as tie
 
@@ -21,36 +21,25 @@ rows-0-requires : tie.Need-rows-0-requires
 rows-0-requires c κs = search needs
 
 returns : tie.Need-returns
-returns c =
-    c .rows-0 .ensures ∙ sym (List·getD-append rows-0 (rows-13 ++ (rows-26 ++ (rows-39 ++ rows-52))) 0 (c .before .before .args .i) (search needs))
+returns c = c .rows-0 .ensures ∙ sym (List·getD-append rows-0 (rows-30 ++ (rows-42 ++ rows-54)) 0 (c .before .before .args .i) (search needs))
 
-rows-13-requires : tie.Need-rows-13-requires
-rows-13-requires c κs = search needs
+rows-30-requires : tie.Need-rows-30-requires
+rows-30-requires c κs = search needs
 
 returns-2 : tie.Need-returns-2
-returns-2 c =
-    c .rows-13 .ensures ∙ part rows-0 rows-13 (rows-26 ++ (rows-39 ++ rows-52)) (c .before .before .before .args .i) (search needs) (search needs)
+returns-2 c = c .rows-30 .ensures ∙ part rows-0 rows-30 (rows-42 ++ rows-54) (c .before .before .before .args .i) (search needs) (search needs)
 
-rows-26-requires : tie.Need-rows-26-requires
-rows-26-requires c κs = search needs
+rows-42-requires : tie.Need-rows-42-requires
+rows-42-requires c κs = search needs
 
 returns-3 : tie.Need-returns-3
-returns-3 c =
-    c .rows-26 .ensures ∙ part (rows-0 ++ rows-13) rows-26 (rows-39 ++ rows-52) (c .before .before .before .before .args .i) (search needs) (search needs)
+returns-3 c = c .rows-42 .ensures ∙ part (rows-0 ++ rows-30) rows-42 rows-54 (c .before .before .before .before .args .i) (search needs) (search needs)
 
-rows-39-requires : tie.Need-rows-39-requires
-rows-39-requires c κs = search needs
+rows-54-requires : tie.Need-rows-54-requires
+rows-54-requires c κs = search needs
 
 returns-4 : tie.Need-returns-4
-returns-4 c =
-    c .rows-39 .ensures ∙ part (rows-0 ++ (rows-13 ++ rows-26)) rows-39 rows-52 (c .before .before .before .before .before .args .i) (search needs) (search needs)
-
-rows-52-requires : tie.Need-rows-52-requires
-rows-52-requires c κs = search needs
-
-returns-5 : tie.Need-returns-5
-returns-5 c =
-    c .rows-52 .ensures ∙ part (rows-0 ++ (rows-13 ++ (rows-26 ++ rows-39))) rows-52 [] (c .before .before .before .before .before .args .i) (search needs) (search needs)
+returns-4 c = c .rows-54 .ensures ∙ part (rows-0 ++ (rows-30 ++ rows-42)) rows-54 [] (c .before .before .before .before .args .i) (search needs) (search needs)
 
 pub entry-spec : {M : Type 1} → statement M
 entry-spec =
@@ -58,11 +47,9 @@ entry-spec =
     (tie.spec
     rows-0-requires
     returns
-    rows-13-requires
+    rows-30-requires
     returns-2
-    rows-26-requires
+    rows-42-requires
     returns-3
-    rows-39-requires
-    returns-4
-    rows-52-requires
-    returns-5)
+    rows-54-requires
+    returns-4)

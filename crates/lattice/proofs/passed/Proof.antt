@@ -1,17 +1,24 @@
--- `lattice::passed` meets its contract. No tile and the last letter pass over nothing; one tile by Pascal's rule. Assumes nothing.
+-- `lattice::passed` meets its contract. The last two letters by the first two columns; one tile by Pascal's rule. Assumes nothing.
 use mathlib.Core.Path.{_∙_}
-use Prim.Native.Nat.{_+_}
+use Prim.Native.Nat.{_+_, _≤_}
+use native.Mathlib.Nat.{mul-le-mul}
 use native.Mathlib.Omega.{arith}
 use borrow.Author.Needs.{needs}
 use Rattle.lattice.proofs.Ranks.{grows, passed-none, passed-last, passed-one}
 use Rattle.lattice.proofs.passed.Statement.{statement}
 use Rattle.lattice.proofs.passed.Tie as tie
 
+mul-result : tie.Need-mul-result
+mul-result c =
+    let a = c .before .args in
+    let h : a .m ≤ 1 = omega arith in
+    omega (arith, mul-le-mul {n₁ = a .m} {m₁ = a .count} {n₂ = 1} {m₂ = a .count} h (omega arith))
+
 returns : tie.Need-returns
-returns c = let a = c .before .args in passed-none (a .m) (a .tiles) (a .count) (c .if1 .taken)
+returns c = let a = c .before .args in passed-last (a .m) (a .tiles) (a .count) (c .if1 .taken)
 
 returns-2 : tie.Need-returns-2
-returns-2 c = let a = c .before .before .args in passed-last (a .m) (a .tiles) (a .count) (c .if2 .taken)
+returns-2 c = let a = c .before .before .args in passed-none (a .m) (a .tiles) (a .count) (c .if2 .taken)
 
 sub-constant : tie.Need-sub-constant
 sub-constant c = search needs
@@ -49,6 +56,7 @@ pub passed-spec : {M : Type 1} → statement M
 passed-spec =
     tie.close
     (tie.spec
+    mul-result
     returns
     returns-2
     sub-constant
