@@ -67,6 +67,10 @@ largest-member f p {x} (List·Memᴰ·tail {x = y} {xs = ys} m) h = by (p y) (la
     by true q = le-trans q (le-max-right (f y) _)
     by false q = q
 
+-- M bounds each best that counts
+pub best-within : (n r : ℕ) (best : List ℤ) (pool R : List ℕ) → Fits n r R → holds pool R ≡ true → natAbs (bestAt n best R) ≤ mostBest n r best pool
+best-within n r best pool R f h = le-trans (largest-member (λ (R : List ℕ). natAbs (bestAt n best R)) (holds pool) (tallies-all n r R f) h) (le-max-right 16 _)
+
 select-append : {A : Type 0} (p : A → Bool) (xs ys : List A) → select p (xs ++ ys) ≡ select p xs ++ select p ys
 select-append p [] ys = refl
 select-append {A} p (x ∷ xs) ys = by (p x) (select-append p xs ys)
@@ -171,9 +175,6 @@ module _ (pool : List ℕ) (r : ℕ) where
           let one : 1 ≤ M = le-trans (omega arith) least in
           le-trans (le-of-eq (sym (mul-one (binomial (total pool) r)))) (le-trans (mul-le-mul-left (binomial (total pool) r) one) (limit .within))
 
-      best-within : (R : List ℕ) → Fits n r R → holds pool R ≡ true → natAbs (bestAt n best R) ≤ M
-      best-within R f h = le-trans (largest-member (λ (R : List ℕ). natAbs (bestAt n best R)) (holds pool) (tallies-all n r R f) h) (le-max-right 16 _)
-
       -- the ways times the best of a rack
       abbrev value : List ℕ → ℤ
       value t = pos (ways pool t) *ℤ bestAt n best t
@@ -208,7 +209,7 @@ module _ (pool : List ℕ) (r : ℕ) where
                 let M-small : M ≤ 2 ^ 53 = le-trans (le-of-eq (sym (one-mul M))) (le-trans (mul-le-mul-right M one) (limit .within)) in
                 ap (λ (b : Bool). cond b (mul binary64 (getD xs (rankOf n R) nan) (whole (bestAt n best R))) (getD num (rankOf n R) nan)) (test ∙ there)
                 ∙ ap (λ (x : Float). mul binary64 x (whole (bestAt n best R))) (w .racks R f)
-                ∙ mul-whole-above (ways pool R) (bestAt n best R) h (ways-small best xs w limit-weight R f) (le-trans (best-within R f there) M-small)
+                ∙ mul-whole-above (ways pool R) (bestAt n best R) h (ways-small best xs w limit-weight R f) (le-trans (best-within n r best pool R f there) M-small)
 
         value-less : (m : List ℕ) → length m ≡ n → total m < r → getD num′ (rankOf n m) nan ≡ whole (pos 0)
         value-less m l h =
@@ -218,7 +219,7 @@ module _ (pool : List ℕ) (r : ℕ) where
         pub sum-folding : Folding pool r value num′
         sum-folding = record {
           begin = begin-of value num′ value-full value-less;
-          small = λ taken m. le-trans (partial-sum-le pool r (bestAt n best) M (λ t a b p. best-within t (record { letters = a; tiles = b }) (T→true (holds pool t) (ways-drawable pool t a p))) taken m) (limit .within);
+          small = λ taken m. le-trans (partial-sum-le pool r (bestAt n best) M (λ t a b p. best-within n r best pool t (record { letters = a; tiles = b }) (T→true (holds pool t) (ways-drawable pool t a p))) taken m) (limit .within);
           lacking = λ R i l h e k. ap (λ (w : ℕ). pos w *ℤ bestAt n best R) (ways-lacking pool R i l h e k) ∙ zero-*ℤ (bestAt n best R);
         }
 

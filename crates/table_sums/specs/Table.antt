@@ -3,6 +3,7 @@ use mathlib.Core.Path.{_≡_}
 use mathlib.Core.Bool.{true}
 use mathlib.Core.List.{List, [], _∷_, map}
 use Prim.Native.Nat.{ℕ, _+_, _*_, _^_, _≤_, max}
+use native.Mathlib.Omega.{arith}
 use lib.IntN.{ℤ, pos, natAbs}
 use lib.Ieee.{Float, nan}
 use lib.ListN.{length, getD}
@@ -49,6 +50,14 @@ pub data Verdict (A B C D : Type 0) : ℕ → Type 0 where
   entries : A → B → (C → ⊥) → Verdict A B C D 8
   limits : A → B → C → (D → ⊥) → Verdict A B C D 9
   accepted : A → B → C → D → Verdict A B C D 0
+
+-- a number of 0 is that of an accepted call
+pub accepted-of : {A B C D : Type 0} {k : ℕ} → Verdict A B C D k → k ≡ 0 → A × B × C × D
+accepted-of (sizes _) e = absurd (omega arith)
+accepted-of (lengths _ _) e = absurd (omega arith)
+accepted-of (entries _ _ _) e = absurd (omega arith)
+accepted-of (limits _ _ _ _) e = absurd (omega arith)
+accepted-of (accepted a b c d) e = (a, b, c, d)
 
 -- ---- what an accepted call leaves
 
