@@ -1,10 +1,9 @@
 -- The running binomial of a pool's weight, which stops above 2 ^ 53. Assumes nothing.
 use mathlib.Core.Path.{_≡_, refl, sym, ap, ap₂, _∙_}
-use Prim.Native.Nat.{ℕ, zero, suc, _+_, _-_, _*_, _/_, _^_, _≤_, _<_, min}
-use native.Mathlib.Nat.{le-trans, le-of-eq, lt-of-lt-of-le, lt-of-not-le, mul-le-mul, min-eq-left, min-eq-right, le-div-iff-mul-le, div-lt-iff-lt-mul, div-eq-of-eq-mul-left}
+use Prim.Native.Nat.{ℕ, suc, _-_, _*_, _/_, _≤_, _<_, min}
+use native.Mathlib.Nat.{le-trans, lt-of-not-le, mul-le-mul, min-eq-left, min-eq-right, le-div-iff-mul-le, div-lt-iff-lt-mul, div-eq-of-eq-mul-left}
 use native.Mathlib.Decide.{decLe}
 use native.Mathlib.Omega.{arith}
-use lib.Dec.{lit≤}
 use Rattle.lattice.specs.Binomial.{binomial, binomial-above, absorb}
 use Rattle.sums.specs.Weight.{weightOf}
 use Rattle.sums.specs.Ascend.{ascend, few-small}

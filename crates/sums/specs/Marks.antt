@@ -10,8 +10,8 @@ use lib.Ieee.{Float, nan, binary64, add}
 use lib.IntN.{ℤ, pos, natAbs, _+ℤ_, +ℤ-idl, +ℤ-idr, +ℤ-assoc}
 use lib.ListN.{length, getD, set, take}
 use lib.Seq.{take-suc, take-length, getD-set-same, getD-set-other}
-use Rattle.laws.specs.Lists.{upto, concatMap}
-use Rattle.laws.specs.Every.{every-weaken, every-member}
+use Rattle.laws.specs.Lists.{upto}
+use Rattle.laws.specs.Every.{every-member}
 use Rattle.laws.specs.Sums.{Additive, sumIn, sumOver, sumOverℤ, sum-concatMap, sum-cong, sum-cong-on, sum-swap}
 use Rattle.laws.specs.Integer.{natAbs-add}
 use Rattle.laws.specs.Tests.{T-ext, T-both}

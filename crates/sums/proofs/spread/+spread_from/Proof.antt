@@ -1,6 +1,6 @@
 -- The proof of the cycle of calls {spread_from}, from the last letter that is there. The measure is the number of letters left. The loop's
 -- invariant: the turns so far are done, in both tables. Assumes nothing.
-use mathlib.Core.Path.{_≡_, refl, sym, ap, _∙_}
+use mathlib.Core.Path.{refl, sym, ap, _∙_}
 use Prim.Native.Nat.{ℕ, _+_, _-_, _<_, _≤_}
 use native.Mathlib.Omega.{arith}
 use borrow.Author.Needs.{needs}

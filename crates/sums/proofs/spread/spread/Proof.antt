@@ -1,7 +1,5 @@
 -- `sums::spread::spread` meets its contract: the walk from all letters. Assumes nothing.
-use mathlib.Core.Path.{_≡_, sym, ap, _∙_}
-use mathlib.Core.List.{List}
-use Prim.Native.Nat.{ℕ}
+use mathlib.Core.Path.{sym, ap, _∙_}
 use lib.ListN.{length}
 use lib.Seq.{take-length}
 use Rattle.search.specs.Runs.{present}

@@ -1,8 +1,7 @@
 -- `sums::weight::weight` meets its contract. The loop's invariant: b is C(tiles, j - 1), and at most 2^53. Assumes nothing.
 use mathlib.Core.Path.{_≡_, refl, sym, ap, _∙_}
-use Prim.Native.Nat.{ℕ, suc, _+_, _*_, _-_, _≤_, _<_}
+use Prim.Native.Nat.{_+_, _-_, _≤_}
 use native.Mathlib.Omega.{arith}
-use borrow.Author.Needs.{needs}
 use Rattle.lattice.specs.Binomial.{binomial, binomial-zero}
 use Rattle.sums.proofs.Weights.{weight-none, weight-is, weight-over, product-fits, turn-is, product-over}
 use Rattle.sums.proofs.weight.weight.Statement.{statement}

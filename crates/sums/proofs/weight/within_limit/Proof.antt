@@ -1,9 +1,6 @@
 -- `sums::weight::within_limit` meets its contract. Assumes nothing.
-use mathlib.Core.Path.{_≡_, refl, sym, ap, _∙_}
-use Prim.Native.Nat.{ℕ, suc, _+_, _*_, _-_, _≤_, _<_}
 use native.Mathlib.Nat.{le-div-iff-mul-le}
 use native.Mathlib.Omega.{arith}
-use borrow.Author.Needs.{needs}
 use borrow.Author.Tests.{leb-true, le-leb}
 use Rattle.sums.proofs.weight.within_limit.Statement.{statement}
 use Rattle.sums.proofs.weight.within_limit.Tie as tie
