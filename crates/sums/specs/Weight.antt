@@ -1,9 +1,9 @@
--- What guards the sums: the weight of a pool, and tables that are clear. Assumes nothing.
+-- What guards the sums: the weight of a pool, the largest entry of a table, and tables that are clear. Assumes nothing.
 use mathlib.Core.Path.{_≡_}
-use mathlib.Core.List.{List}
-use Prim.Native.Nat.{ℕ, _<_, min}
+use mathlib.Core.List.{List, [], _∷_}
+use Prim.Native.Nat.{ℕ, _<_, min, max}
 use lib.Ieee.{Float, nan}
-use lib.IntN.{pos}
+use lib.IntN.{ℤ, pos, natAbs}
 use lib.ListN.{length, getD}
 use Rattle.whole.specs.Whole.{whole}
 use Rattle.lattice.specs.Binomial.{binomial}
@@ -11,6 +11,11 @@ use Rattle.lattice.specs.Binomial.{binomial}
 -- W: C(tiles, k), and 2 ^ 53 + 1 where it is above 2 ^ 53
 unfoldable pub weightOf : ℕ → ℕ → ℕ
 weightOf tiles k = min (binomial tiles k) 9007199254740993
+
+-- "largest absolute sheet", "largest absolute leave"
+unfoldable pub largest : List ℤ → ℕ
+largest [] = 0
+largest (z ∷ zs) = max (natAbs z) (largest zs)
 
 -- every entry is +0.0
 abbrev pub Clear : List Float → Type 0

@@ -18,9 +18,10 @@ use Rattle.scatter.specs.Scatter.{played, offered, scatterAt}
 use Rattle.blanks.specs.Variants.{Tile, flags, marked, reals, dropped, count, fit, countWith, tallyWith, allowed, indexOf, worthOf, raisedBy, raised}
 use Rattle.maxima.specs.Maxima.{raise}
 use Rattle.text.specs.Text.{natural, decimal, line}
+use Rattle.sums.specs.Weight.{largest}
 use Rattle.listing.specs.Sizes.{cellsOf}
 use Rattle.listing.specs.Reading.{body, readingOf, reading}
-use Rattle.listing.specs.Listing.{countAt, sumAt, rows, header, page, largest, weight, boardNumber, listingOf}
+use Rattle.listing.specs.Listing.{countAt, sumAt, rows, header, page, weight, boardNumber, listingOf}
 
 -- the listing's board: n 2, r 2, pool (1,2)
 abbrev sheet : List ℤ
