@@ -4,6 +4,7 @@ use mathlib.Core.Bool.{Bool, true, false, cond}
 use mathlib.Core.List.{List, []}
 use mathlib.Core.Logic.{_⊎_}
 use Prim.Native.Nat.{ℕ, _*_, _≤_, _<_}
+use native.Mathlib.Nat.{le-suc}
 use native.Mathlib.Omega.{arith}
 use lib.IntN.{ℤ, pos}
 use lib.ListN.{length, getD}
@@ -17,9 +18,10 @@ use Rattle.lattice.specs.Answers.{served}
 use Rattle.lattice.specs.Tally.{lattice, start}
 use Rattle.lattice.specs.Rank.{rank-at, at-fits}
 use Rattle.lattice.specs.Lattice.{length-lattice}
+use Rattle.lattice.specs.Tallies.{start-mono}
 use Rattle.lattice.specs.Leaves.{table-rises}
-use Rattle.lattice.specs.Numbers.{Len, lenNumber, none, orNone}
-use Rattle.lattice.specs.Served.{facts}
+use Rattle.lattice.specs.Numbers.{Len, FullRackStart, lenNumber, none, orNone}
+use Rattle.lattice.specs.Served.{facts, starts-small}
 use Rattle.lattice.specs.Tables.{Rises, SameByLetter}
 use Rattle.lattice.specs.TableCalls.{Tables, same-by-letter}
 use Rattle.lattice.specs.declared.Ranked.the-variants.{At, Refused}
@@ -64,6 +66,23 @@ module _ (n r : ℕ) where
     where
       go : (b : Bool) → served n r ≡ b → none ≡ orNone (cond b 0 1) (length (lattice n r)) → served n r ≡ false
       go true e v = absurd (let f = facts n r e .few in omega (arith, length-lattice n r))
+      go false e v = e
+
+  -- and the start of its full racks
+  pub leaves-at : {k : ℕ} → FullRackStart n r (At k) → k ≡ start n r
+  unfolding lenNumber
+  leaves-at {k} l = go (served n r) (l .gives .numbered) (l .gives .valued)
+    where
+      go : (b : Bool) → _≡_ {A = ℕ} 0 (cond b 0 1) → k ≡ orNone (cond b 0 1) (start n r) → k ≡ start n r
+      go true z v = v
+      go false z v = absurd (omega arith)
+
+  pub leaves-refused : {k : ℕ} → FullRackStart n r (Refused k) → served n r ≡ false
+  unfolding lenNumber
+  leaves-refused {k} l = go (served n r) refl (l .gives .valued)
+    where
+      go : (b : Bool) → served n r ≡ b → none ≡ orNone (cond b 0 1) (start n r) → served n r ≡ false
+      go true e v = absurd (omega (arith, starts-small n r (facts n r e), start-mono n (le-suc r)))
       go false e v = e
 
 -- ---- the call's own cases

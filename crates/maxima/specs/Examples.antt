@@ -2,7 +2,7 @@
 use mathlib.Core.Path.{_≡_, refl}
 use mathlib.Core.List.{List, [], _∷_}
 use Prim.Native.Nat.{ℕ}
-use lib.IntN.{ℤ, pos, negsuc}
+use lib.IntN.{pos, negsuc}
 use Rattle.laws.specs.Integer.{maxℤ}
 use Rattle.laws.specs.Loops.{descend}
 use Rattle.lattice.specs.Tables.{up}

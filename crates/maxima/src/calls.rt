@@ -10,7 +10,6 @@ use crate::subset_max;
 use lattice::Lattice;
 use lattice::Ranked;
 use lattice::add::tables_are_right;
-use lattice::start_of;
 
 // Whether tables and slices with so many entries have the lengths of a lattice of n letters, so many leaves and so many multisets.
 fn lengths_fit(
@@ -42,20 +41,30 @@ fn lengths_fit(
     by_letter == whole
 }
 
-// The call where the sizes are served and the lattice has so many multisets.
+// The number of leaves, where the sizes are served.
+fn leaves_of(lat: Lattice) -> usize
+    ensures { λ k. ⌜ (served (lat .n) (lat .r) ≡ true → k ≡ start (lat .n) (lat .r)) ⌝ }
+{
+    match lat.full_rack_start() {
+        Ranked::At(rows) => rows as usize,
+        Ranked::Refused(_) => 0,
+    }
+}
+
+// The call where the sizes are served, and the lattice has so many leaves and so many multisets.
 fn transform(
     n: usize,
     r: usize,
+    rows: usize,
     size: usize,
     add: &[u32],
     by_letter: &[u32],
     src: &[i32],
     dst: &mut [i32],
 ) -> u8
-    requires { ⌜ (served n r ≡ true) × (size ≡ length (lattice n r)) ⌝ }
+    requires { ⌜ (served n r ≡ true) × (rows ≡ start n r) × (size ≡ length (lattice n r)) ⌝ }
     ensures { λ b. ⌜ SubsetMaxed n r (now (add .entry)) (now («by_letter» .entry)) (now (src .entry)) (now (dst .entry)) b (now (dst .exit)) ⌝ }
 {
-    let rows = start_of(n, r) as usize;
     if !lengths_fit(
         n,
         r,
@@ -87,8 +96,9 @@ pub fn subset_max_transform(
 {
     let n = lat.n;
     let r = lat.r;
+    let rows = leaves_of(lat);
     match lat.len() {
-        Ranked::At(size) => transform(n, r, size as usize, add, by_letter, src, dst),
+        Ranked::At(size) => transform(n, r, rows, size as usize, add, by_letter, src, dst),
         Ranked::Refused(_) => 1,
     }
 }

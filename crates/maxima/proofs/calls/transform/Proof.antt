@@ -2,64 +2,38 @@
 use native.Mathlib.Omega.{arith}
 use borrow.Author.Needs.{needs}
 use borrow.Author.Tests.{not-true, not-false}
-use Rattle.lattice.specs.Served.{facts}
 use Rattle.maxima.specs.Answers.{refused, passes-ask, lifted-all}
 use Rattle.maxima.specs.Answers.SubsetMaxNumber.{lengths, rule}
 use Rattle.maxima.proofs.calls.transform.Statement.{statement}
 use Rattle.maxima.proofs.calls.transform.Tie as tie
 
-start-of-requires : tie.Need-start-of-requires
-start-of-requires c κs =
-    let s = c .before .before in
-    let f = facts (s .args .n) (s .args .r) (s .pre .0) in
-    (f .letters, omega (arith, f .tiles))
-
 lengths-fit-requires : tie.Need-lengths-fit-requires
 lengths-fit-requires c κs = search needs
 
 returns : tie.Need-returns
-returns c =
-    let s = c .before .before .before .before .before in
-    refused (lengths (s .pre .0) (c .before .lengths-fit .ensures .no (not-true _ (c .if1 .taken)))) (λ z. omega arith)
+returns c = refused (lengths (c .before .before .before .before .pre .0) (c .before .lengths-fit .ensures .no (not-true _ (c .if1 .taken)))) (λ z. omega arith)
 
 tables-are-right-requires : tie.Need-tables-are-right-requires
 tables-are-right-requires c κs = search needs
 
 returns-2 : tie.Need-returns-2
 returns-2 c =
-    let s = c .before .before .before .before .before .before .before in
     refused
-    (rule (s .pre .0) (c .before .before .before .lengths-fit .ensures .yes (not-false _ (c .before .before .if1 .left)))
+    (rule (c .before .before .before .before .before .before .pre .0) (c .before .before .before .lengths-fit .ensures .yes (not-false _ (c .before .before .if1 .left)))
     (c .before .tables-are-right .ensures .no (not-true _ (c .if2 .taken))))
     (λ z. omega arith)
 
 subset-max-requires : tie.Need-subset-max-requires
 subset-max-requires c κs =
-    passes-ask (c .before .before .before .before .before .start-of .ensures)
-    (c .before .before .before .before .lengths-fit .ensures .yes (not-false _ (c .before .before .before .if1 .left)))
-    (c .before .before .tables-are-right .ensures .yes (not-false _ (c .before .if2 .left)))
+    passes-ask (c .before .before .before .before .before .before .before .pre .1) (c .before .before .before .before .lengths-fit .ensures .yes (not-false _ (c .before .before .before .if1 .left))) (c .before .before .tables-are-right .ensures .yes (not-false _ (c .before .if2 .left)))
 
 same-length : tie.Need-same-length
 same-length c = search needs
 
 returns-3 : tie.Need-returns-3
 returns-3 c =
-    let s = c .before .before .before .before .before .before .before .before .before .before in
-    lifted-all (s .pre .0)
-    (c .before .before .before .before .before .before .lengths-fit .ensures .yes (not-false _ (c .before .before .before .before .before .if1 .left)))
-    (c .before .before .before .before .tables-are-right .ensures .yes (not-false _ (c .before .before .before .if2 .left)))
-    (c .before .before .before .before .before .before .before .start-of .ensures)
-    (c .before .subset-max .ensures)
+    let s = c .before .before .before .before .before .before .before .before .before in
+    lifted-all (s .pre .0) (c .before .before .before .before .before .before .lengths-fit .ensures .yes (not-false _ (c .before .before .before .before .before .if1 .left))) (c .before .before .before .before .tables-are-right .ensures .yes (not-false _ (c .before .before .before .if2 .left))) (s .pre .1) (c .before .subset-max .ensures)
 
 pub transform-spec : {M : Type 1} → statement M
-transform-spec =
-    tie.close
-    (tie.spec
-    start-of-requires
-    lengths-fit-requires
-    returns
-    tables-are-right-requires
-    returns-2
-    subset-max-requires
-    same-length
-    returns-3)
+transform-spec = tie.close (tie.spec lengths-fit-requires returns tables-are-right-requires returns-2 subset-max-requires same-length returns-3)
