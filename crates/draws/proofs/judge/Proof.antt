@@ -36,8 +36,8 @@ returns-3 : tie.Need-returns-3
 returns-3 c = judged-no 1 (lengths (c .before .before .before .before .before .before .pre .0) (λ l. c .if3 .taken (l .in-pool)))
 
 -- the lengths are as they ought to be
-right : (c : tie.After-fills) → Lengths (c .before .before .before .before .before .before .before .before .args .n) (c .before .before .before .before .before .before .before .before .args .r) (c .before .before .before .before .before .before .before .before .args .add .now) (c .before .before .before .before .before .before .before .before .args .full-v .now) (c .before .before .before .before .before .before .before .before .args .pool .now)
-right c = record { in-add = c .before .before .before .before .if1 .left ∙ size (c .before .before .before .before .before); in-full = c .before .before .before .if2 .left ∙ c .before .before .before .before .before .before .before .before .pre .1; in-pool = c .before .before .if3 .left }
+right : (c : tie.After-fills) → Lengths (c .before .before .before .before .before .before .before .args .n) (c .before .before .before .before .before .before .before .args .r) (c .before .before .before .before .before .before .before .args .add .now) (c .before .before .before .before .before .before .before .args .full-v .now) (c .before .before .before .before .before .before .before .args .pool .now)
+right c = record { in-add = c .before .before .before .if1 .left ∙ size (c .before .before .before .before); in-full = c .before .before .if2 .left ∙ c .before .before .before .before .before .before .before .pre .1; in-pool = c .before .if3 .left }
 
 fills-requires : tie.Need-fills-requires
 fills-requires c κs = search needs
@@ -48,17 +48,17 @@ add-is-right-requires c κs = search needs
 returns-4 : tie.Need-returns-4
 returns-4 c =
     judged-yes (record {
-      sizes = c .before .before .before .before .before .before .before .before .before .before .before .pre .0;
+      sizes = c .before .before .before .before .before .before .before .before .before .before .pre .0;
       lengths = right (c .before .before .before);
       fills = c .before .before .before .fills .ensures .yes (c .before .before .if4 .taken);
       table = c .before .add-is-right .ensures .yes (c .if5 .taken);
     })
 
 returns-5 : tie.Need-returns-5
-returns-5 c = judged-no 5 (rule (c .before .before .before .before .before .before .before .before .before .before .before .pre .0) (right (c .before .before .before)) (c .before .before .before .fills .ensures .yes (c .before .before .if4 .taken)) (c .before .add-is-right .ensures .no (c .if5 .left)))
+returns-5 c = judged-no 5 (rule (c .before .before .before .before .before .before .before .before .before .before .pre .0) (right (c .before .before .before)) (c .before .before .before .fills .ensures .yes (c .before .before .if4 .taken)) (c .before .add-is-right .ensures .no (c .if5 .left)))
 
 returns-6 : tie.Need-returns-6
-returns-6 c = judged-no 3 (place (c .before .before .before .before .before .before .before .before .before .pre .0) (right (c .before)) (c .before .fills .ensures .no (c .if4 .left)))
+returns-6 c = judged-no 3 (place (c .before .before .before .before .before .before .before .before .pre .0) (right (c .before)) (c .before .fills .ensures .no (c .if4 .left)))
 
 pub judge-spec : {M : Type 1} → statement M
 judge-spec =
