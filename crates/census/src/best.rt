@@ -1,17 +1,19 @@
 // The best of a rack, of every full rack, and the best leave.
 ghost use mathlib.Core.Path.{_≡_};
-ghost use lib.ListN.{length};
 ghost use Rattle.search.specs.Split.{bestSplit};
 ghost use Rattle.search.specs.BestKeep.{bestKeep};
 ghost use Rattle.search.specs.Order.{kept};
-ghost use Rattle.search.specs.Answers.{number, value, keepNumber, keepValue, rackNumber, sizesNumber, Tabled};
-ghost use Rattle.census.specs.Plain.{PlainBest, PlainKeep};
+ghost use Rattle.search.specs.Refusals.{rackNumber, leaveNumber};
+ghost use Rattle.search.specs.Answers.{bestNumber, bestValue, keepNumber, keepValue, moveNumber, moveValue, moveKind, Tabled};
+ghost use Rattle.census.specs.Plain.{PlainBest, PlainKeep, kindByte, PlainPlay};
 use lattice::Lattice;
 use search::calls::Best;
 use search::calls::Keep;
+use search::calls::Move;
 use search::calls::best_equity_of;
 use search::calls::best_equity_table;
 use search::calls::best_keep_of;
+use search::calls::naive_best_equity;
 use whole::UNPLAYABLE;
 
 // A best with its number: UNPLAYABLE where refused.
@@ -29,8 +31,16 @@ pub struct Leave {
     pub rank: u32,
 }
 
+// A best with its number and the kind of the move: 0 no move, 1 a word, 2 an exchange. UNPLAYABLE and no move where refused.
+#[repr(C)]
+pub struct Play {
+    pub number: u8,
+    pub kind: u8,
+    pub value: i32,
+}
+
 fn plain_best(answer: Best) -> Equity
-    ensures { λ b. ⌜ (b .number ≡ number answer) × (b .value ≡ value answer) ⌝ }
+    ensures { λ b. ⌜ (b .number ≡ bestNumber answer) × (b .value ≡ bestValue answer) ⌝ }
 {
     match answer {
         Best::Is(v) => Equity {
@@ -57,6 +67,28 @@ fn plain_keep(answer: Keep) -> Leave
             number: k,
             value: UNPLAYABLE,
             rank: 4294967295,
+        },
+    }
+}
+
+fn plain_play(answer: Move) -> Play
+    ensures { λ b. ⌜ (b .number ≡ moveNumber answer) × (b .kind ≡ kindByte (moveKind answer)) × (b .value ≡ moveValue answer) ⌝ }
+{
+    match answer {
+        Move::Word(v) => Play {
+            number: 0,
+            kind: 1,
+            value: v,
+        },
+        Move::Exchange(v) => Play {
+            number: 0,
+            kind: 2,
+            value: v,
+        },
+        Move::Refused(k) => Play {
+            number: k,
+            kind: 0,
+            value: UNPLAYABLE,
         },
     }
 }
@@ -98,9 +130,25 @@ pub extern "C" fn census_best_keep_of(
     tally: &[u8],
     keep: usize,
 ) -> Leave
-    ensures { λ b. ⌜ PlainKeep (sizesNumber n r (length (now (leave .entry))) (length (now (leave .entry))) (now (tally .entry)))
+    ensures { λ b. ⌜ PlainKeep (leaveNumber n r (now (leave .entry)) (now (tally .entry)))
         (bestKeep (now (leave .entry)) n (now (tally .entry)) keep) (b .number) (b .value) (b .rank) ⌝ }
 {
     let lat = Lattice { n, r };
     plain_keep(best_keep_of(lat, leave, tally, keep))
+}
+
+// The kept tally is written into its slice, where the call is accepted.
+#[no_mangle]
+pub extern "C" fn census_naive_best_equity(
+    n: usize,
+    r: usize,
+    sheet: &[i32],
+    leave: &[i32],
+    tally: &[u8],
+    kept: &mut [u8],
+) -> Play
+    ensures { λ b. ⌜ PlainPlay n r (now (sheet .entry)) (now (leave .entry)) (now (tally .entry)) (now («kept» .entry)) (b .number) (b .kind) (b .value) (now («kept» .exit)) ⌝ }
+{
+    let lat = Lattice { n, r };
+    plain_play(naive_best_equity(lat, sheet, leave, tally, kept))
 }

@@ -15,7 +15,7 @@ returns : tie.Need-returns
 returns c =
     let apart = c .plain-best .ensures in
     let answer = c .before .best-equity-of .ensures in
-    record { numbered = apart .0 ∙ answer .0; valued = apart .1 ∙ answer .1 }
+    record { numbered = apart .0 ∙ answer .numbered; valued = apart .1 ∙ answer .valued }
 
 pub census-best-equity-of-spec : {M : Type 1} → statement M
 census-best-equity-of-spec = tie.close (tie.spec best-equity-of-requires plain-best-requires returns)

@@ -15,7 +15,7 @@ returns : tie.Need-returns
 returns c =
     let apart = c .plain-keep .ensures in
     let answer = c .before .best-keep-of .ensures in
-    record { numbered = apart .0 ∙ answer .0; valued = apart .1 ∙ answer .1 }
+    record { numbered = apart .0 ∙ answer .numbered; valued = apart .1 ∙ answer .valued }
 
 pub census-best-keep-of-spec : {M : Type 1} → statement M
 census-best-keep-of-spec = tie.close (tie.spec best-keep-of-requires plain-keep-requires returns)
