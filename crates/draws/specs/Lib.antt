@@ -6,4 +6,3 @@ pub mod Exact
 pub mod Walking
 pub mod Answer
 pub mod Leave
-pub mod Examples

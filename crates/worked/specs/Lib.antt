@@ -1,2 +1,3 @@
 -- Document 01's worked examples.
+pub mod Draws
 pub mod Worked

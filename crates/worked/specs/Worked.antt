@@ -19,6 +19,8 @@ use Rattle.blanks.specs.Variants.{Tile, flags, marked, reals, dropped, count, f
 use Rattle.maxima.specs.Maxima.{raise}
 use Rattle.text.specs.Text.{natural, decimal, line}
 use Rattle.sums.specs.Weight.{largest}
+use Rattle.lattice.specs.Leaves.{AddTable}
+use Rattle.worked.specs.Draws.{Keeping, keeping, Fifteen, fifteen}
 use Rattle.listing.specs.Sizes.{cellsOf}
 use Rattle.listing.specs.Reading.{body, readingOf, reading}
 use Rattle.listing.specs.Listing.{countAt, sumAt, rows, header, page, weight, boardNumber, listingOf}
@@ -60,9 +62,11 @@ pub data Line : Type 0 where
   listing : Line
   bests : Line
   scatter : Line
+  draws : Line
   keeps : Line
   variants : Line
   forced : Line
+  heavy : Line
   cut : Line
 
 -- THE TABLE: what each line says
@@ -82,6 +86,8 @@ Says listing = listingOf input ≡ output
 Says bests = (bestSplit sheet leave 2 (0 ∷ 2 ∷ []) ≡ pos 10) × (bestSplit sheet leave 2 (1 ∷ 1 ∷ []) ≡ pos 30)
 -- there, scatter leaves 7 for (2,0), whose best split is 8
 Says scatter = (scatterAt sheet leave (1 ∷ 2 ∷ []) 2 leaveMax (2 ∷ 0 ∷ []) ≡ pos 7) × (bestSplit sheet leave 2 (2 ∷ 0 ∷ []) ≡ pos 8)
+-- there, keeping (0,1) and drawing from (1,1): 40 over 2, so 20, not 23
+Says draws = Keeping
 -- n 2, r 2, leave 0 4 4 0 0 0, rack (1,1): keep 1 gives (4, 1); keep 3 gives (UNPLAYABLE, none); keep 0 gives (0, 0)
 Says keeps =
     (bestKeep leaves 2 (1 ∷ 1 ∷ []) 1 ≡ kept (pos 4) 1)
@@ -94,6 +100,8 @@ Says variants =
 Says forced =
     (raised 3 (1 ∷ 0 ∷ 1 ∷ []) 1 (pos 20) placed zeros ≡ pos 0 ∷ pos 0 ∷ pos 0 ∷ pos 0 ∷ pos 0 ∷ pos 0 ∷ pos 0 ∷ pos 15 ∷ pos 0 ∷ pos 0 ∷ [])
     × (raised 3 (1 ∷ 0 ∷ 1 ∷ []) 0 (pos 20) placed zeros ≡ zeros)
+-- n 1, r 15, pool 64, draw 15: a best of 56 answers 56; 57 is refused with 9
+Says heavy = (add : List ℕ) → AddTable 1 15 add → Fifteen add
 -- sum −7, count 2: −3
 Says cut = mean (negsuc 6) 2 ≡ negsuc 2
 
@@ -118,7 +126,9 @@ worked lengths = long
 worked listing = refl
 worked bests = (refl, refl)
 worked scatter = (refl, refl)
+worked draws = keeping
 worked keeps = (refl, refl, refl)
 worked variants = refl
 worked forced = (refl, refl)
+worked heavy = fifteen
 worked cut = refl
