@@ -76,3 +76,9 @@ pub fn placed(rng: &mut Rng, n: usize, r: usize, over: bool) -> Placed {
     };
     Placed { score, letters, drops, blanks }
 }
+
+// a sheet for n 3, r 3: with 255 of each letter its sums are rounded
+pub const HEAVY: [i32; 20] = [
+    -155876453, 445554842, -435067004, -220326826, -62950242, 298103718, -402413968, -204481109, -302320194, -232812694,
+    -45053729, -523140856, 450731388, 156377995, -425787629, -192006291, 95110387, -209901033, 272484670, -250541478,
+];

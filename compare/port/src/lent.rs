@@ -3,6 +3,14 @@
 pub trait Entry: Copy + PartialEq {
     // the entries before and after a lent slice
     const GUARD: [Self; 4];
+
+    fn same(self, other: Self) -> bool {
+        self == other
+    }
+}
+
+fn all_same<T: Entry>(a: &[T], b: &[T]) -> bool {
+    a.len() == b.len() && a.iter().zip(b).all(|(x, y)| x.same(*y))
 }
 
 impl Entry for u8 {
@@ -19,6 +27,15 @@ impl Entry for u64 {
 
 impl Entry for i32 {
     const GUARD: [i32; 4] = [i32::MIN, 0, i32::MAX, 0x5a5a_5a5a];
+}
+
+// by all bits
+impl Entry for f64 {
+    const GUARD: [f64; 4] = [f64::NAN, 0.0, -0.0, f64::INFINITY];
+
+    fn same(self, other: f64) -> bool {
+        self.to_bits() == other.to_bits()
+    }
 }
 
 pub struct Lent<T: Entry> {
@@ -41,18 +58,26 @@ impl<T: Entry> Lent<T> {
     pub fn after(&self) -> Option<&[T]> {
         let (head, rest) = self.all.split_at(T::GUARD.len());
         let (slice, tail) = rest.split_at(self.entry.len());
-        (head == T::GUARD && tail == T::GUARD).then_some(slice)
+        (all_same(head, &T::GUARD) && all_same(tail, &T::GUARD)).then_some(slice)
     }
 
     // nothing was written, in the slice or beside it
     pub fn untouched(&self) -> bool {
-        self.after() == Some(&self.entry[..])
+        self.after().is_some_and(|slice| all_same(slice, &self.entry))
     }
 }
 
 #[cfg(test)]
 mod tests {
     use super::*;
+
+    #[test]
+    fn a_sign_of_zero_is_seen() {
+        let mut s = Lent::new(&[0.0f64, f64::NAN]);
+        assert!(s.untouched());
+        s.now()[0] = -0.0;
+        assert!(!s.untouched() && s.after().is_some());
+    }
 
     #[test]
     fn a_write_beside_the_slice_is_seen() {

@@ -26,6 +26,15 @@ pub struct Leave {
     pub rank: u32,
 }
 
+// kind: 0 no move, 1 a word, 2 an exchange
+#[repr(C)]
+#[derive(Clone, Copy, Debug, PartialEq)]
+pub struct Play {
+    pub number: u8,
+    pub kind: u8,
+    pub value: i32,
+}
+
 #[repr(C)]
 #[derive(Clone, Copy, Debug, PartialEq)]
 pub struct Part {
@@ -77,6 +86,15 @@ exported! {
     best_equity_of = census_best_equity_of(n: usize, r: usize, sheet: [i32], leave: [i32], tally: [u8],) -> Equity;
     best_equity_table = census_best_equity_table(n: usize, r: usize, sheet: [i32], leave: [i32], out: mut [i32],) -> u8;
     best_keep_of = census_best_keep_of(n: usize, r: usize, leave: [i32], tally: [u8], keep: usize,) -> Leave;
+    naive_best_equity = census_naive_best_equity(n: usize, r: usize, sheet: [i32], leave: [i32], tally: [u8], kept: mut [u8],) -> Play;
+    subset_max_transform = census_subset_max_transform(n: usize, r: usize, add: [u32], by_letter: [u32], src: [i32],
+        dst: mut [i32],) -> u8;
+    apportion_table = census_apportion_table(n: usize, r: usize, best: [i32], unseen: [u8], num: mut [f64], den: mut [f64],) -> u8;
+    apportion_fused = census_apportion_fused(n: usize, r: usize, add: [u32], by_letter: [u32], sheet: [i32], leave: [i32],
+        leave_max: [i32], unseen: [u8], num: mut [f64], den: mut [f64], ways: mut [f64], maxsheet: mut [i32], zeta: bool,
+        null_leave: bool, scatter: bool,) -> u8;
+    dynamic_leave_value = census_dynamic_leave_value(n: usize, r: usize, add: [u32], full_v: [i32], pool: [u8], s_ridx: usize,
+        draw: usize,) -> Equity;
     record_blank_variants = census_record_blank_variants(n: usize, r: usize, sheet: mut [i32], score: i32, letters: mut [u8],
         drops: mut [i32], unseen: [u8], blanks: usize,) -> u8;
 }

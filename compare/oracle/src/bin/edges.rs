@@ -4,6 +4,7 @@
 //   edges NUMBER     one, in this process
 use oracle::calls::{self, Sums, add_table};
 use oracle::census::*;
+use oracle::inputs::HEAVY;
 use oracle::model::Mode;
 use oracle::prob::Pascal;
 use std::process::Command;
@@ -47,12 +48,6 @@ fn blanks(n: usize, r: usize, score: i32, placed: &[(u8, i32)], unseen: &[u8], k
     record_blank_variants(&l, &mut sheet, score, &mut p, unseen, k);
     format!("sheet {sheet:?} placed {p:?}")
 }
-
-// n 3, r 3: with 255 of each letter its sums are rounded
-const HEAVY: [i32; 20] = [
-    -155876453, 445554842, -435067004, -220326826, -62950242, 298103718, -402413968, -204481109, -302320194, -232812694,
-    -45053729, -523140856, 450731388, 156377995, -425787629, -192006291, 95110387, -209901033, 272484670, -250541478,
-];
 
 fn heavy(flags: u8) -> String {
     let board = ApportionBoard { sheet: &HEAVY, leave: &[0; 20], leave_max: &[], unseen: &[255; 3] };

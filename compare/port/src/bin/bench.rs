@@ -1,12 +1,16 @@
 // The port's speed beside the original's: the same process, the same inputs, one thread, both optimised, processor time. Prints docs/SPEED.md.
-//   bench [RUNS]        3 runs where not given
-use oracle::calls::add_table;
+//   bench [RUNS [small]]        3 runs where not given; `small` leaves the large lattice out
+use oracle::calls::{self, add_table};
 use oracle::census::*;
+use oracle::model::Mode;
 use oracle::rng::Rng;
 use std::hint::black_box;
 
 // the blank and A to Z of an English set
 const ENGLISH: [u8; 27] = [2, 9, 2, 2, 4, 12, 2, 3, 2, 9, 1, 1, 4, 2, 6, 8, 2, 1, 6, 4, 6, 4, 2, 2, 1, 2, 1];
+
+// words that are put on the large sheet, some of them at one entry
+const WORDS: usize = 100_000;
 
 // processor time of this process, in seconds
 fn processor() -> f64 {
@@ -224,6 +228,13 @@ fn best_plays(bench: &mut Bench, b: &Board, rng: &mut Rng) {
         |t| best_equity_of(lat, sheet, leave, t) as u64,
         |t| port::best_equity_of(n, r, sheet, leave, t).value as u64,
     );
+    let mut kept = vec![0u8; n];
+    bench.race_short(
+        "naive search of a full rack",
+        &racks,
+        |t| naive_best_equity(lat, sheet, leave, t).0 as u64,
+        |t| port::naive_best_equity(n, r, sheet, leave, t, &mut kept).value as u64,
+    );
     let keep = r / 2 + 1;
     bench.race_short(
         &format!("best leave of {keep} tiles of a full rack"),
@@ -231,6 +242,127 @@ fn best_plays(bench: &mut Bench, b: &Board, rng: &mut Rng) {
         |t| best_keep_of(lat, leave, t, keep).1 as u64,
         |t| port::best_keep_of(n, r, leave, t, keep).rank as u64,
     );
+}
+
+// the original's tables of ranks, without and with the letter table, and the port's two
+struct Ranks {
+    theirs: [AddTable; 2],
+    add: Vec<u32>,
+    letters: Vec<u32>,
+}
+
+impl Ranks {
+    fn new(b: &Board) -> Self {
+        let size = b.lat.full_rack_start() * b.n;
+        let (mut add, mut letters) = (vec![0; size], vec![0; size]);
+        assert_eq!(port::fill_add(b.n, b.r, &mut add), 0);
+        assert_eq!(port::fill_by_letter(b.n, b.r, &add, &mut letters), 0);
+        Self { theirs: [add_table(&b.lat, false), add_table(&b.lat, true)], add, letters }
+    }
+}
+
+fn maxima(bench: &mut Bench, b: &Board, ranks: &Ranks) {
+    let (mut theirs, mut ours) = (vec![0; b.lat.len()], vec![0; b.lat.len()]);
+    let calls = (200_000 / ranks.add.len()).max(1);
+    let each = |time: f64| time / calls as f64;
+    for (table, letters, name) in [(0, &[][..], "without"), (1, &ranks.letters, "with")] {
+        bench.race(
+            &format!("subset maximum {name} the letter table"),
+            None,
+            || {
+                let one = |_| subset_max_transform(&b.lat, &ranks.theirs[table], &b.leave, black_box(&mut theirs));
+                each(seconds(|| (0..calls).for_each(one)).0)
+            },
+            || {
+                let one =
+                    |_| assert_eq!(port::subset_max_transform(b.n, b.r, &ranks.add, letters, &b.leave, black_box(&mut ours)), 0);
+                each(seconds(|| (0..calls).for_each(one)).0)
+            },
+        );
+        assert!(theirs == ours);
+    }
+}
+
+fn same_bits(a: &[f64], b: &[f64]) -> bool {
+    a.iter().zip(b).all(|(x, y)| x.to_bits() == y.to_bits())
+}
+
+// the sums, which are made +0.0 before each call; that is not timed
+fn sums(bench: &mut Bench, b: &Board, ranks: &Ranks, best: &[i32]) {
+    let (n, r, lat, len) = (b.n, b.r, &b.lat, b.lat.len());
+    let calls = (20_000 / len).max(1);
+    // the seconds of one call, of so many
+    let timed = |one: &mut dyn FnMut() -> f64| (0..calls).map(|_| one()).sum::<f64>() / calls as f64;
+    let zeros = || [vec![0.0; len], vec![0.0; len]];
+    let ([mut num, mut den], [mut num2, mut den2]) = (zeros(), zeros());
+    bench.race(
+        "table sums",
+        None,
+        || {
+            timed(&mut || {
+                num.fill(0.0);
+                den.fill(0.0);
+                seconds(|| apportion_table(lat, best, &b.pool, &mut num, &mut den)).0
+            })
+        },
+        || {
+            timed(&mut || {
+                num2.fill(0.0);
+                den2.fill(0.0);
+                seconds(|| assert_eq!(port::apportion_table(n, r, best, &b.pool, &mut num2, &mut den2), 0)).0
+            })
+        },
+    );
+    assert!(same_bits(&num, &num2) && same_bits(&den, &den2));
+    drop([num, den, num2, den2]);
+    let mut leave_max = vec![0; len];
+    subset_max_transform(lat, &ranks.theirs[1], &b.leave, &mut leave_max);
+    let board = ApportionBoard { sheet: &b.sheet, leave: &b.leave, leave_max: &leave_max, unseen: &b.pool };
+    let (mut theirs, mut ours) = (calls::Sums::new(lat, 0.0, 0), calls::Sums::new(lat, 0.0, 0));
+    for (flags, name) in [(0, "none"), (1, "zeta"), (3, "zeta and null_leave"), (5, "zeta and scatter")] {
+        let mode = Mode::of(flags);
+        bench.race(
+            &format!("fused sums, {name}"),
+            None,
+            || {
+                timed(&mut || {
+                    theirs.clear();
+                    seconds(|| calls::fused(lat, &ranks.theirs[1], &board, mode, &mut theirs)).0
+                })
+            },
+            || {
+                timed(&mut || {
+                    ours.clear();
+                    let calls::Sums { num, den, ways, maxsheet } = &mut ours;
+                    let (zeta, null_leave, scatter) = (mode.zeta, mode.null_leave, mode.scatter);
+                    let (add, letters) = (&ranks.add, &ranks.letters);
+                    let (sheet, leave, pool) = (&b.sheet, &b.leave, &b.pool);
+                    let (time, number) = seconds(|| {
+                        port::apportion_fused(
+                            n, r, add, letters, sheet, leave, &leave_max, pool, num, den, ways, maxsheet, zeta, null_leave,
+                            scatter,
+                        )
+                    });
+                    assert_eq!(number, 0);
+                    time
+                })
+            },
+        );
+        assert!(same_bits(&theirs.num, &ours.num) && same_bits(&theirs.den, &ours.den));
+        assert!(same_bits(&theirs.ways, &ours.ways) && theirs.maxsheet == ours.maxsheet);
+    }
+}
+
+fn draws(bench: &mut Bench, b: &Board, ranks: &Ranks, best: &[i32]) {
+    let (n, r, pool) = (b.n, b.r, &b.pool[..]);
+    bench.race_short(
+        &format!("mean best of {r} tiles drawn, none kept (the port judges the add table)"),
+        &[0usize],
+        |&idx| dynamic_leave_value(&b.lat, &ranks.theirs[0], best, pool, idx, r) as u64,
+        |&idx| port::dynamic_leave_value(n, r, &ranks.add, best, pool, idx, r).value as u64,
+    );
+    let theirs = dynamic_leave_value(&b.lat, &ranks.theirs[0], best, pool, 0, r);
+    assert_eq!(port::dynamic_leave_value(n, r, &ranks.add, best, pool, 0, r), port::Equity { number: 0, value: theirs });
 }
 
 fn blanks(bench: &mut Bench, b: &Board, rng: &mut Rng) {
@@ -272,6 +404,12 @@ fn run(b: &Board, batches: u32, long_batches: u32) -> Vec<Race> {
     ranks(&mut bench, b, &mut rng);
     bench.batches = long_batches;
     best_plays(&mut bench, b, &mut rng);
+    let ranks = Ranks::new(b);
+    let mut best = vec![0; b.lat.len()];
+    best_equity_table(&b.lat, &b.sheet, &b.leave, &mut best);
+    maxima(&mut bench, b, &ranks);
+    sums(&mut bench, b, &ranks, &best);
+    draws(&mut bench, b, &ranks, &best);
     bench.batches = batches;
     blanks(&mut bench, b, &mut rng);
     bench.races
@@ -314,6 +452,7 @@ is by how much the original's slowest run passes its fastest. What the port give
     rt staticlib census && cd compare && cargo run -j1 --release --offline --bin bench -- RUNS > ../docs/SPEED.md
 
 - The port tests its sizes, lengths and tables at each call, which the original does not.
+- The fused sums have the letter table at hand. Their four settings are those that run different code; sums are made +0.0 before a call, which is not timed.
 - The original allocates its tables of ranks, and makes each on a thread of its own. `Made anew`: the port's side allocates too, so both pay for
   the first touch of the memory; `into a slice at hand` is the port's call alone, against the same time of the original.
 ";
@@ -325,19 +464,26 @@ fn thread() -> f64 {
 }
 
 fn main() {
-    let runs: usize = std::env::args().nth(1).map_or(3, |a| a.parse().expect("bench [RUNS]"));
-    let mut rng = Rng(20261115);
-    let boards = [
-        (Board::new(&mut rng, 27, 7, ENGLISH.to_vec(), 100_000), 12, 3),
-        (Board::new(&mut rng, 4, 3, vec![2, 3, 2, 4], 20), 12, 12),
-    ];
+    let args: Vec<String> = std::env::args().skip(1).collect();
+    let runs: usize = args.first().map_or(3, |a| a.parse().expect("bench [RUNS [small]]"));
+    let mut boards = vec![(Board::new(&mut Rng(4), 4, 3, vec![2, 3, 2, 4], 20), 12, 12)];
+    if args.get(1).is_none_or(|a| a != "small") {
+        boards.insert(0, (Board::new(&mut Rng(20261115), 27, 7, ENGLISH.to_vec(), WORDS), 12, 3));
+    }
     print!("{}", INTRODUCTION.replace("RUNS", &runs.to_string()));
     println!(
         "- A thread that is started and joined and does nothing takes {}: the original's times for its two tables include that.\n",
         time(thread())
     );
     for (b, batches, long_batches) in &boards {
-        println!("## {} letters, {} tiles: length {}, {} leaves\n", b.n, b.r, b.lat.len(), b.lat.full_rack_start());
+        let words = b.sheet.iter().filter(|&&v| v > 0).count();
+        println!(
+            "## {} letters, {} tiles: length {}, {} leaves, {words} words on the sheet\n",
+            b.n,
+            b.r,
+            b.lat.len(),
+            b.lat.full_rack_start()
+        );
         let all: Vec<Vec<Race>> = (0..runs).map(|_| run(b, *batches, *long_batches)).collect();
         table(&all);
     }

@@ -7,7 +7,7 @@ use oracle::inputs::Placed;
 use oracle::model::{self, Lattice, NONE, UNPLAYABLE};
 use port::lent::Lent;
 use port::report::By;
-use port::{Equity, Leave, Part, Rank};
+use port::{Equity, Leave, Part, Play, Rank};
 
 // the original's lattice, and the model's; none where the sizes are refused
 pub type Both<'a> = Option<(&'a MultisetLattice, &'a Lattice)>;
@@ -145,6 +145,34 @@ impl Agree {
         let kept = s.untouched() && l.untouched() && t.untouched();
         let input = || format!("n {n} r {r}, {} and {} entries, {tally:?}", sheet.len(), leave.len());
         self.report.compare("best_equity_of", by, kept, &got, &want, input);
+    }
+
+    pub fn naive(&mut self, n: usize, r: usize, both: Both, [sheet, leave]: [&[i32]; 2], tally: &[u8], kept: &[u8]) {
+        let want = match both {
+            None => Err(1),
+            Some(_) if kept.len() != n => Err(2),
+            Some((_, m)) => m.naive(sheet, leave, tally),
+        };
+        let (mut s, mut l, mut t, mut k) = (Lent::new(sheet), Lent::new(leave), Lent::new(tally), Lent::new(kept));
+        let got = port::naive_best_equity(n, r, s.now(), l.now(), t.now(), k.now());
+        let untouched = s.untouched() && l.untouched() && t.untouched();
+        let input = || format!("n {n} r {r}, {} and {} entries, {tally:?}, {} counts", sheet.len(), leave.len(), kept.len());
+        let got = (got, k.after().map(<[u8]>::to_vec));
+        let call = "naive_best_equity";
+        match want {
+            Ok((value, rest, word)) => {
+                // the kind is the document's
+                let kind = if word { 1 } else { 2 };
+                let play = |value, rest| (Play { number: 0, kind, value }, Some(rest));
+                let (best, letters) = calls::naive(both.unwrap().0, sheet, leave, tally);
+                self.report.compare(call, By::Original, untouched, &got, &play(best, letters), input);
+                self.report.compare(call, By::Document, untouched, &got, &play(value, rest), input);
+            }
+            Err(number) => {
+                let want = (Play { number, kind: 0, value: UNPLAYABLE }, Some(kept.to_vec()));
+                self.report.compare(call, By::Document, untouched, &got, &want, input);
+            }
+        }
     }
 
     pub fn best_table(&mut self, n: usize, r: usize, both: Both, [sheet, leave, out]: [&[i32]; 3]) {

@@ -1,10 +1,11 @@
 // Document 01's worked examples, and the inputs of docs/DIFFERENCES.md where the original departs from the document: what the port gives is
 // held against the document's own words.
 use crate::Agree;
-use oracle::model::{NONE, UNPLAYABLE};
+use oracle::inputs::HEAVY;
+use oracle::model::{Mode, NONE, UNPLAYABLE};
 use port::lent::{Entry, Lent};
 use port::report::By;
-use port::{Equity, Leave, Part, Rank};
+use port::{Equity, Leave, Part, Play, Rank};
 use std::fmt::Debug;
 
 const NOTHING: Part = Part { start: 0, len: 0 };
@@ -48,6 +49,57 @@ fn untouched(number: u8, len: usize, placed: &[(u8, i32)]) -> Variants {
     (number, vec![0; len], letters, drops)
 }
 
+// a lattice's two tables of ranks
+fn tables(n: usize, r: usize) -> [Vec<u32>; 2] {
+    let size = port::full_rack_start(n, r).value as usize * n;
+    let (mut add, mut letters) = (vec![0; size], vec![0; size]);
+    port::fill_add(n, r, &mut add);
+    port::fill_by_letter(n, r, &add, &mut letters);
+    [add, letters]
+}
+
+const BEFORE: i32 = -99;
+
+// what the fused sums give where every sum is `sum` before and every entry of maxsheet BEFORE: the number, num, den and ways, and maxsheet
+type Fused = (u8, [Vec<f64>; 3], Vec<i32>);
+
+fn fused(n: usize, r: usize, [sheet, leave, leave_max]: [&[i32]; 3], pool: &[u8], mode: Mode, sum: f64) -> Fused {
+    let [add, letters] = tables(n, r);
+    let (len, lo) = (port::len(n, r).value as usize, port::full_rack_start(n, r).value as usize);
+    let (mut num, mut den, mut ways, mut maxsheet) = (vec![sum; lo], vec![sum; lo], vec![sum; len - lo], vec![BEFORE; len]);
+    let (zeta, null_leave, scatter) = (mode.zeta, mode.null_leave, mode.scatter);
+    let number = port::apportion_fused(
+        n,
+        r,
+        &add,
+        &letters,
+        sheet,
+        leave,
+        leave_max,
+        pool,
+        &mut num,
+        &mut den,
+        &mut ways,
+        &mut maxsheet,
+        zeta,
+        null_leave,
+        scatter,
+    );
+    (number, [num, den, ways], maxsheet)
+}
+
+const SCATTER: Mode = Mode { zeta: true, null_leave: false, scatter: true };
+const SPLIT: Mode = Mode { zeta: false, null_leave: false, scatter: false };
+const ALONE: Mode = Mode { zeta: true, null_leave: true, scatter: false };
+
+fn no_move(number: u8) -> Play {
+    Play { number, kind: 0, value: UNPLAYABLE }
+}
+
+fn mean(value: i32) -> Equity {
+    Equity { number: 0, value }
+}
+
 impl Agree {
     fn says<T: PartialEq + Debug>(&mut self, call: &'static str, item: &str, got: T, want: T) {
         self.report.compare(call, By::Document, true, &got, &want, || item.to_string());
@@ -58,6 +110,10 @@ impl Agree {
         self.sizes_and_ranks();
         self.rows_and_letters();
         self.best_plays();
+        self.naive_plays();
+        self.maxima();
+        self.sums();
+        self.draws();
         self.blank_variants();
     }
 
@@ -85,6 +141,111 @@ impl Agree {
             let want = (0, sheet, vec![1, 2], vec![5, 3]);
             self.says("record_blank_variants", item, variants(3, 2, 10, 20, &placed, &unseen, blanks), want);
         }
+    }
+
+    // DIFFERENCES 18 to 21, and the kind of a move
+    fn naive_plays(&mut self) {
+        let call = "naive_best_equity";
+        let naive = |n, r, sheet: &[i32], leaves: &[i32], tally: &[u8], kept: &[u8]| {
+            let mut k = Lent::new(kept);
+            let got = port::naive_best_equity(n, r, sheet, leaves, tally, k.now());
+            (got, k.after().map(<[u8]>::to_vec))
+        };
+        let three = naive(1, 2, &[0, 5, 9], &[0, 1, 2], &[3], &[7]);
+        self.says(call, "18", three, (no_move(4), Some(vec![7])));
+        self.says(call, "18", naive(1, 2, &[0, 5, 9], &[0, 1, 2], &[5], &[7]), (no_move(4), Some(vec![7])));
+        self.says(call, "19", naive(2, 1, &[0; 3], &[0; 3], &[1], &[7, 7]), (no_move(2), Some(vec![7, 7])));
+        self.says(call, "20", naive(1, 1, &[-536_870_912; 2], &[-536_870_912; 2], &[1], &[7]), (no_move(5), Some(vec![7])));
+        let (sheet, leaves) = ([0, 2, 1, 10, 30, 5], [0, 4, 7, 1, 3, -2]);
+        for (tally, kind, value, kept) in [([0, 2], 1, 10, [0, 0]), ([1, 1], 1, 30, [0, 0]), ([2, 0], 1, 8, [1, 0])] {
+            let want = (Play { number: 0, kind, value }, Some(kept.to_vec()));
+            self.says(call, "21", naive(2, 2, &sheet, &leaves, &tally, &[9, 9]), want);
+        }
+        // nothing is worth playing, and the smallest played tally among equals
+        let want = (Play { number: 0, kind: 2, value: 0 }, Some(vec![1, 1]));
+        self.says(call, "21", naive(2, 2, &[0; 6], &[0; 6], &[1, 1], &[9, 9]), want);
+    }
+
+    // DIFFERENCES 24
+    fn maxima(&mut self) {
+        let call = "subset_max_transform";
+        let [add, letters] = tables(1, 2);
+        let [shorter, _] = tables(1, 1);
+        let max = |add: &[u32], letters: &[u32], src: &[i32], dst: &[i32]| {
+            written(dst, |dst| port::subset_max_transform(1, 2, add, letters, src, dst))
+        };
+        self.says(call, "24", max(&add, &letters, &[0, 3, 2], &[7; 3]), (0, Some(vec![0, 3, 3])));
+        for (add, letters, src, dst, number) in [
+            (&add[..], &letters[..], &[0, 3][..], &[7; 3][..], 2),
+            (&add, &letters, &[0, 3, 2], &[7; 2], 2),
+            (&shorter, &[], &[0, 3, 2], &[7; 3], 2),
+            (&add, &shorter, &[0, 3, 2], &[7; 3], 2),
+            (&[1, 1], &[], &[0, 3, 2], &[7; 3], 6),
+            (&add, &[1, 1], &[0, 3, 2], &[7; 3], 6),
+        ] {
+            self.says(call, "24", max(add, letters, src, dst), (number, Some(dst.to_vec())));
+        }
+    }
+
+    // the listing's sums and scatter; DIFFERENCES 1 and 25 to 28
+    fn sums(&mut self) {
+        let call = "apportion_fused";
+        let (sheet, leaves, most) = ([0, 2, 1, 10, 30, 5], [0, 4, 7, 1, 3, -2], [0, 4, 7, 4, 7, 7]);
+        let listed = [vec![70.0, 70.0, 60.0], vec![3.0, 3.0, 2.0], vec![1.0, 2.0, 0.0]];
+        for (mode, maxsheet) in [(SPLIT, vec![BEFORE, BEFORE, BEFORE, 10, 30, BEFORE]), (SCATTER, vec![0, 4, 7, 10, 30, 7])] {
+            let got = fused(2, 2, [&sheet, &leaves, &most], &[1, 2], mode, 0.0);
+            self.says(call, "worked example", got, (0, listed.clone(), maxsheet));
+        }
+        let (mut num, mut den) = ([0.0; 6], [0.0; 6]);
+        let number = port::apportion_table(2, 2, &[0, 0, 0, 10, 30, 8], &[1, 2], &mut num, &mut den);
+        let want = (0, [70.0, 70.0, 60.0, 10.0, 60.0, 0.0], [3.0, 3.0, 2.0, 1.0, 2.0, 0.0]);
+        self.says("apportion_table", "worked example", (number, num, den), want);
+        let want = (0, [vec![1.0], vec![1.0], vec![1.0]], vec![0, 1]);
+        self.says(call, "1", fused(1, 1, [&[0, 0], &[0, 1], &[0, 1]], &[1], SCATTER, 0.0), want);
+        let refused = |number, sum| (number, [vec![sum; 2], vec![sum; 2], vec![sum]], vec![BEFORE; 3]);
+        for (sheet, leaves, most) in
+            [([9, 0, 0], [0; 3], [0; 3]), ([-1; 3], [0; 3], [0; 3]), ([0; 3], [0; 3], [0, 0, 99]), ([0; 3], [0, 1, 0], [0, 1, 0])]
+        {
+            self.says(call, "25", fused(1, 2, [&sheet, &leaves, &most], &[2], SCATTER, 0.0), refused(7, 0.0));
+        }
+        let got = fused(1, 2, [&[9, 0, 0], &[0; 3], &[]], &[2], SPLIT, 0.0);
+        self.says(call, "25", got, (0, [vec![9.0; 2], vec![1.0; 2], vec![1.0]], vec![BEFORE, BEFORE, 9]));
+        self.says(call, "26", fused(1, 2, [&[0; 3], &[0; 3], &[]], &[2], SPLIT, 1.0), refused(8, 1.0));
+        let (number, [num, ..], _) = fused(1, 2, [&[0; 3], &[0; 3], &[]], &[2], SPLIT, -0.0);
+        self.says(call, "26", (number, num[0].to_bits()), (8, (-0.0f64).to_bits()));
+        let (mut num, mut den) = ([1.0; 2], [1.0; 2]);
+        let number = port::apportion_table(1, 1, &[0, 1], &[1], &mut num, &mut den);
+        self.says("apportion_table", "26", (number, num, den), (8, [1.0; 2], [1.0; 2]));
+        let (mut num, mut den) = ([0.0; 16], [0.0; 16]);
+        let number = port::apportion_table(1, 15, &[0; 16], &[131], &mut num, &mut den);
+        self.says("apportion_table", "27", (number, num, den), (9, [0.0; 16], [0.0; 16]));
+        for zeta in [false, true] {
+            let got = fused(3, 3, [&HEAVY, &[0; 20], &[]], &[255; 3], Mode { zeta, ..SPLIT }, 0.0);
+            self.says(call, "27", got, (9, [vec![0.0; 10], vec![0.0; 10], vec![0.0; 10]], vec![BEFORE; 20]));
+        }
+        let beyond = [0, 0, 536_870_912];
+        self.says(call, "28", fused(1, 2, [&[0; 3], &beyond, &[]], &[2], ALONE, 0.0), refused(5, 0.0));
+    }
+
+    // the worked examples; DIFFERENCES 27, 30 to 32
+    fn draws(&mut self) {
+        let call = "dynamic_leave_value";
+        let draw =
+            |n, r, best: &[i32], pool: &[u8], idx, draw| port::dynamic_leave_value(n, r, &tables(n, r)[0], best, pool, idx, draw);
+        self.says(call, "worked example", draw(2, 2, &[0, 0, 0, 10, 30, 8], &[1, 1], 1, 1), mean(20));
+        for (best, want) in [(56, mean(56)), (57, no_play(9))] {
+            self.says(call, "worked example", draw(1, 15, &[best; 16], &[64], 0, 15), want);
+        }
+        let heavy = [0, 0, 0, 0, 0, 0, -793_145_501, 545_421_080, 873_570_948, -771_488_131];
+        self.says(call, "27", draw(2, 3, &heavy, &[255, 255], 0, 3), no_play(9));
+        self.says(call, "30", draw(1, 1, &[11, 12], &[1], 0, 0), no_play(4));
+        self.says(call, "30", draw(2, 1, &[11, 12, 13], &[1, 1], 0, 2), no_play(4));
+        for idx in [2, usize::MAX] {
+            self.says(call, "31", draw(1, 1, &[11, 12], &[1], idx, 1), no_play(4));
+        }
+        self.says(call, "32", draw(1, 1, &[11, i32::MIN], &[0], 1, 0), mean(i32::MIN));
+        self.says(call, "32", draw(1, 1, &[11, 12], &[0], 0, 1), mean(UNPLAYABLE));
+        self.says(call, "6", port::dynamic_leave_value(1, 1, &[0], &[11, 12], &[1], 0, 1), no_play(6));
     }
 
     // DIFFERENCES 2 to 14

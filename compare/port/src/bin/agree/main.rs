@@ -4,11 +4,13 @@
 mod calls;
 mod documented;
 mod random;
+mod sums;
 
 use oracle::census::MultisetLattice;
-use oracle::model::{self, Lattice};
+use oracle::model;
 use oracle::rng::Rng;
 use port::report::Report;
+use sums::Listed;
 
 pub struct Agree {
     rng: Rng,
@@ -80,9 +82,19 @@ fn main() {
     let racks = count / 20 / boards / sizes.len() as u64 + 1;
     for &(n, r) in &sizes {
         a.tables(n, r);
-        let m = Lattice::new(n, r);
+        let l = Listed::new(n, r);
+        // more sums where they are short
+        let sums = if l.m.len() <= 150 { 10 * boards } else { boards };
         for _ in 0..boards {
-            a.board(&new((n, r)), &m, racks);
+            a.board(&l, racks);
+        }
+        for _ in 0..sums {
+            a.fuse_board(&l);
+            a.weights(&l);
+            for _ in 0..20 {
+                a.subsets(&l);
+                a.best_sums(&l);
+            }
         }
     }
     std::process::exit(!a.report.print() as i32);
