@@ -23,6 +23,7 @@ use Rattle.search.specs.Split.{Bounded, worth, bestFrom, bestOf, bestSplit}
 use Rattle.maxima.specs.Judge.{SubsetMax}
 use Rattle.scatter.specs.Scatter.{played, offered, scatterAt}
 use Rattle.scatter.specs.Every.{IsScatter}
+use Rattle.sums.specs.Weight as Sw
 use Rattle.sums.specs.Weight.{Clear}
 use Rattle.fused.specs.Splits.{Split}
 use Rattle.fused.specs.Answer as Fu
@@ -170,7 +171,7 @@ module _ (mode : Mode) where
   words e = record { word-sheet = record { nonnegative = nonnegative; no-tiles = refl }; is-max = zero-max }
 
   sound : Sound given
-  unfolding binomial total start Fu.largest lattice tallies upto concatMap Bounded
+  unfolding binomial total start Sw.largest lattice tallies upto concatMap Bounded
   sound = record {
     sizes = served-is;
     lengths = record { in-add = refl; in-by-letter = inl refl; in-sheet = refl; in-leave = refl; in-leave-max = λ e. refl; in-pool = refl };

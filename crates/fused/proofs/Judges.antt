@@ -1,15 +1,13 @@
 -- Laws that the proofs of the judges cite. Assumes nothing.
 use Prim.Native.Nat.{ℕ, _+_, _-_, _*_, _^_, _≤_, _<_, max}
 use mathlib.Core.Bool.{true, false}
-use mathlib.Core.List.{List, [], _∷_, _++_}
-use mathlib.Core.Path.{_≡_, refl, sym, ap, ap₂, subst, _∙_}
-use lib.IntN.{ℤ, pos, natAbs}
-use lib.ListN.{length, take, List·getD-eq-default}
+use mathlib.Core.List.{List}
+use mathlib.Core.Path.{_≡_, sym, ap₂, subst}
+use lib.IntN.{ℤ, pos}
+use lib.ListN.{length, List·getD-eq-default}
 use lib.Signed.{ltZ, _≤ℤ_}
 use native.Mathlib.Decide.{decLt}
-use lib.Seq.{take-suc}
 use native.Mathlib.Nat.{le-trans}
-use native.Mathlib.Numerals.{add-one}
 use native.Mathlib.Omega.{arith}
 use Rattle.laws.specs.Integer.{atℤ, ≤ℤ-parts, <ℤ-parts, ≤ℤ-antisym, ≡-≤ℤ, ltZ-true}
 use Rattle.lattice.specs.AddRows.{Decides}
@@ -17,10 +15,10 @@ use Rattle.lattice.specs.Binomial.{binomial, positive}
 use Rattle.lattice.specs.Tally.{total, tallies, lattice, start, start-suc}
 use Rattle.lattice.specs.Lattice.{length-lattice-start, start-next}
 use Rattle.search.specs.Split.{Bounded}
-use Rattle.sums.specs.Weight.{weightOf}
-use Rattle.sums.specs.Limit.{limit-there, limit-back}
-use Rattle.fused.specs.Answer.{Input, WordSheet, Entries, largest, most, Limit}
-use Rattle.fused.specs.Modes.{true-false, largest-bounds, largest-least}
+use Rattle.sums.specs.Weight.{largest}
+use Rattle.sums.specs.Largest.{largest-bounds, largest-least}
+use Rattle.fused.specs.Answer.{Input, WordSheet, Entries, most, Limit}
+use Rattle.fused.specs.Modes.{true-false}
 
 pub says-yes : {P : Type 0} → P → Decides true P
 says-yes p = record { yes = λ _. p; no = λ e. absurd (true-false e) }
@@ -51,36 +49,6 @@ all-words sheet i l some first all =
     at : (k : ℕ) → Dec (k < length sheet) → pos 0 ≤ℤ atℤ sheet k
     at k (yes h) = all k (omega arith)
     at k (no h) = ≡-≤ℤ (sym (List·getD-eq-default sheet (pos 0) {n = k} (omega arith)))
-
--- ---- the largest entry
-
--- one entry more
-largest-snoc : (xs : List ℤ) (x : ℤ) → largest (xs ++ (x ∷ [])) ≡ max (largest xs) (natAbs x)
-unfolding largest
-largest-snoc [] x = omega arith
-largest-snoc (y ∷ ys) x = let e = largest-snoc ys x in omega arith
-
-pub largest-none : (xs : List ℤ) → 0 ≡ largest (take 0 xs)
-unfolding largest
-largest-none xs = refl
-
-pub largest-more : (xs : List ℤ) (i : ℕ) {a b : ℕ} → i < length xs → a ≡ largest (take i xs) → b ≡ max a (natAbs (atℤ xs i)) → b ≡ largest (take (i + 1) xs)
-largest-more xs i h p q =
-    q ∙ ap (λ (k : ℕ). max k (natAbs (atℤ xs i))) p ∙ sym (ap (λ (k : ℕ). largest (take k xs)) (add-one i) ∙ ap largest (take-suc xs i (pos 0) h) ∙ largest-snoc (take i xs) (atℤ xs i))
-
--- the weight against the limit
-module _ (pool : List ℕ) (r a b : ℕ) {tiles w m : ℕ} (t : tiles ≡ total pool) (e : w ≡ weightOf tiles r) (f : m ≡ max 16 (a + b)) where
-  weight-is : w ≡ weightOf (total pool) r
-  weight-is = e ∙ ap (λ (k : ℕ). weightOf k r) t
-
-  some : 1 ≤ max 16 (a + b)
-  some = omega arith
-
-  pub weight-within : w * m ≤ 2 ^ 53 → binomial (total pool) r * max 16 (a + b) ≤ 2 ^ 53
-  weight-within h = limit-there (total pool) r some weight-is (rw f at h)
-
-  pub weight-back : binomial (total pool) r * max 16 (a + b) ≤ 2 ^ 53 → w * m ≤ 2 ^ 53
-  weight-back h = rw f (limit-back (total pool) r some weight-is h)
 
 -- ---- entries and limit, by the largest entries of sheet and leave
 

@@ -21,7 +21,7 @@ use Rattle.search.specs.Split.{Bounded, bestOf, bestSplit}
 use Rattle.maxima.specs.Judge.{SubsetMax}
 use Rattle.scatter.specs.Scatter.{scatterAt}
 use Rattle.scatter.specs.Every.{IsScatter}
-use Rattle.sums.specs.Weight.{Clear}
+use Rattle.sums.specs.Weight.{largest, Clear}
 use Rattle.fused.specs.Splits.{Split}
 use Rattle.fused.specs.ZetaSums.{Summed}
 use Rattle.fused.specs.declared.mode.Mode.{Mode}
@@ -119,11 +119,6 @@ pub record Cleared (num den deals : List Float) : Type 0 where
   pub clear-num : Clear num
   pub clear-den : Clear den
   pub clear-deals : Clear deals
-
--- the largest absolute entry
-unfoldable pub largest : List ℤ → ℕ
-largest [] = 0
-largest (x ∷ xs) = max (natAbs x) (largest xs)
 
 -- "M is at least 16. Fused: largest absolute sheet plus largest absolute leave"
 abbrev pub most : Input → ℕ

@@ -19,8 +19,10 @@ use Rattle.search.specs.Split.{Bounded, worth, bestOf, bestSplit}
 use Rattle.search.specs.Best.{bestOf-attained, bestOf-bound, best-attained}
 use Rattle.scatter.specs.Scatter.{scatterAt}
 use Rattle.scatter.specs.BestSplit.{scatter-best}
+use Rattle.sums.specs.Weight.{largest}
+use Rattle.sums.specs.Largest.{largest-bounds, split-most}
 use Rattle.fused.specs.Splits.{split-at}
-use Rattle.fused.specs.Answer.{Input, sheetAlone, inForce, subsetBest, modeBest, Words, Sound, largest, most, Bests}
+use Rattle.fused.specs.Answer.{Input, sheetAlone, inForce, subsetBest, modeBest, Words, Sound, most, Bests}
 use Rattle.fused.specs.declared.mode.Mode.{Mode}
 
 pub true-false : _≡_ {A = Bool} true false → ⊥
@@ -64,19 +66,6 @@ module _ (g : Input) (R : List ℕ) where
   unfolding modeBest
   best-split e f = rw (e, f)
 
--- ---- the largest absolute entry
-
-pub largest-bounds : (xs : List ℤ) → Bounded (largest xs) xs
-unfolding Bounded largest
-largest-bounds [] j = omega arith
-largest-bounds (x ∷ xs) zero = omega arith
-largest-bounds (x ∷ xs) (suc j) = let h = largest-bounds xs j in omega arith
-
-pub largest-least : (xs : List ℤ) (B : ℕ) → Bounded B xs → largest xs ≤ B
-unfolding Bounded largest
-largest-least [] B h = omega arith
-largest-least (x ∷ xs) B h = let l = largest-least xs B (λ j. h (suc j)) in omega (arith, h 0)
-
 -- ---- the subset maximum
 
 module _ (sheet : List ℤ) (n : ℕ) (R : List ℕ) where
@@ -95,13 +84,7 @@ module _ (sheet : List ℤ) (n : ℕ) (R : List ℕ) where
       let a = bestOf-attained (λ P. atℤ sheet (rankOf n P)) (parts R) (parts-all R R (Within-refl R)) in
       le-trans (le-of-eq (ap natAbs (sym (a .is)))) (b (rankOf n (a .part)))
 
--- ---- the best split: at most the largest sheet and the largest leave
-
-split-most : (sheet leave : List ℤ) (n A B : ℕ) → Bounded A sheet → Bounded B leave → (t : List ℕ) → natAbs (bestSplit sheet leave n t) ≤ A + B
-unfolding worth Bounded
-split-most sheet leave n A B a b t =
-    let w = best-attained sheet leave n t in
-    le-trans (le-of-eq (ap natAbs (sym (w .2)))) (natAbs-+ℤ (atℤ sheet (rankOf n (w .0))) (atℤ leave (rankOf n (minus t (w .0)))) (a (rankOf n (w .0))) (b (rankOf n (minus t (w .0)))))
+-- ---- the best split
 
 -- where no leave is worth anything it is the subset maximum of sheet
 null-best : (sheet leave : List ℤ) (n : ℕ) (R : List ℕ) → ((i : ℕ) → atℤ leave i ≡ pos 0) → subsetBest sheet n R ≡ bestSplit sheet leave n R

@@ -9,16 +9,14 @@ ghost use Rattle.lattice.specs.Answers.{served};
 ghost use Rattle.lattice.specs.Binomial.{binomial};
 ghost use Rattle.lattice.specs.Leaves.{AddTable};
 ghost use Rattle.lattice.specs.Tally.{total, lattice, start};
-ghost use Rattle.fused.specs.Answer.{input, lent, inForce, ReadLengths, LentLengths, largest, WordSheet, Words, Cleared, FusedNumber};
+ghost use Rattle.fused.specs.Answer.{input, lent, inForce, ReadLengths, LentLengths, WordSheet, Words, Cleared, FusedNumber};
 use crate::mode::Mode;
 use crate::mode::in_force;
 use lattice::add::tables_are_right;
 use maxima::is_subset_max;
 use sums::weight::all_clear;
-use sums::weight::larger;
-use sums::weight::tiles_in;
-use sums::weight::weight;
-use sums::weight::within_limit;
+use sums::weight::largest;
+use sums::weight::within_weight;
 
 // Whether a table letter by letter is empty or whole.
 fn empty_or(len: usize, whole: usize) -> bool
@@ -104,17 +102,6 @@ fn lent_fit(
     true
 }
 
-// The largest size of an entry.
-fn largest(entries: &[i32]) -> u64
-    ensures { λ m. ⌜ m ≡ largest (now (entries .entry)) ⌝ }
-{
-    let mut most: u64 = 0;
-    for i in 0..entries.len() {
-        most = larger(most, entries[i]);
-    }
-    most
-}
-
 // Whether no entry is negative, and that of no tiles is 0.
 fn word_sheet(sheet: &[i32]) -> bool
     requires { ⌜ 0 < length (now sheet) ⌝ }
@@ -172,26 +159,6 @@ fn cleared(num: &[f64], den: &[f64], ways: &[f64]) -> bool
         return false;
     }
     true
-}
-
-// The sum of two sizes, and at least 16.
-fn at_least_16(a: u64, b: u64) -> u64
-    requires { ⌜ a + b < 2 ^ 64 ⌝ }
-    ensures { λ m. ⌜ m ≡ max 16 (a + b) ⌝ }
-{
-    let sum = a + b;
-    if sum < 16 { 16 } else { sum }
-}
-
-// Whether all hands, times the largest sheet and leave, are at most 2^53.
-fn within_weight(unseen: &[u8], r: usize, sheet: u64, leave: u64) -> bool
-    requires { ⌜ (length (now unseen) ≤ 64) × (r ≤ 15) × (sheet ≤ 536870911) × (leave ≤ 536870911) ⌝ }
-    ensures { λ b. ⌜ Decides b (binomial (total (now (unseen .entry))) r * max 16 (sheet + leave) ≤ 2 ^ 53) ⌝ }
-{
-    if within_limit(weight(tiles_in(unseen), r), at_least_16(sheet, leave)) {
-        return true;
-    }
-    false
 }
 
 // The number of the refusal of a call over a lattice with so many leaves and so many multisets; 0 where it is accepted.
