@@ -1,2 +1,0 @@
--- The plain layer's answers.
-pub mod Plain

@@ -1,6 +1,0 @@
-// The plain layer: every outward call on numbers and slices alone, for Rust or C to link. An answer is taken apart into its number and the
-// left column of document 01's table; nothing else is done here.
-pub mod best;
-pub mod placed;
-pub mod ranks;
-pub mod tables;
