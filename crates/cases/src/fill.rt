@@ -1,5 +1,7 @@
 // Slices filled with one value, or from the numbers of a record.
+use crate::part::counted;
 use crate::part::entry;
+use crate::part::is_counted;
 use text::Entry;
 
 pub fn bytes(s: &mut [u8], value: u8) {
@@ -67,7 +69,7 @@ pub fn copy_ranks(from: &[u32], to: &mut [u32]) {
 }
 
 // Bytes from the numbers of a record; false where there is no room or a number is no byte.
-pub fn load_bytes(list: &[u64], s: &mut [u8]) -> bool {
+fn load_bytes(list: &[u64], s: &mut [u8]) -> bool {
     let mut i = 0;
     while i < list.len() {
         if s.len() <= i {
@@ -98,7 +100,7 @@ fn load_entry(v: u64, s: &mut [i32], i: usize) -> bool {
 }
 
 // Entries from the numbers of a record; false where there is no room or a number is no i32.
-pub fn load_entries(list: &[u64], s: &mut [i32]) -> bool {
+fn load_entries(list: &[u64], s: &mut [i32]) -> bool {
     let mut i = 0;
     while i < list.len() {
         if !load_entry(list[i], s, i) {
@@ -107,4 +109,20 @@ pub fn load_entries(list: &[u64], s: &mut [i32]) -> bool {
         i += 1;
     }
     true
+}
+
+// Bytes from numbers that follow their length.
+pub fn load_counted_bytes(rest: &[u64], s: &mut [u8]) -> bool {
+    if is_counted(rest) {
+        return load_bytes(counted(rest), s);
+    }
+    false
+}
+
+// Entries from numbers that follow their length.
+pub fn load_counted_entries(rest: &[u64], s: &mut [i32]) -> bool {
+    if is_counted(rest) {
+        return load_entries(counted(rest), s);
+    }
+    false
 }

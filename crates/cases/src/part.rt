@@ -30,14 +30,17 @@ pub fn first<'a>(rest: &'a [u64], k: usize) -> &'a [u64] {
 
 // The numbers that follow their length.
 pub fn counted<'a>(rest: &'a [u64]) -> &'a [u64] {
-    let k = at(rest, 0) as usize;
-    first(after(rest, 1), k)
+    first(after(rest, 1), size(rest))
 }
 
 // The numbers after those that follow their length.
 pub fn after_counted<'a>(rest: &'a [u64]) -> &'a [u64] {
-    let k = at(rest, 0) as usize;
-    after(after(rest, 1), k)
+    after(after(rest, 1), size(rest))
+}
+
+// How many numbers follow their length, as it says.
+pub fn size(rest: &[u64]) -> usize {
+    at(rest, 0) as usize
 }
 
 // One fewer, where there is any.

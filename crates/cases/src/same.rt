@@ -33,6 +33,22 @@ pub fn pair(rest: &[u64], number: u8, value: u64) -> bool {
     at(rest, 1) == value
 }
 
+// A number of refusal and an i32.
+pub fn valued(rest: &[u64], number: u8, value: i32) -> bool {
+    if rest.len() != 2 {
+        return false;
+    }
+    if !is_u8(at(rest, 0), number) {
+        return false;
+    }
+    is_i32(at(rest, 1), value)
+}
+
+// One number.
+pub fn one(rest: &[u64], value: u64) -> bool {
+    rest.len() == 1 && at(rest, 0) == value
+}
+
 pub fn bytes(rest: &[u64], s: &[u8]) -> bool {
     if rest.len() != s.len() {
         return false;

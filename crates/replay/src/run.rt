@@ -1,79 +1,63 @@
 // The records of a list, run one after the other.
-use crate::board;
-use crate::board::Board;
-use crate::counts::Outcome;
 use crate::counts::count;
-use crate::plays;
-use crate::ranks;
-use crate::tables;
-use crate::variants;
 use cases::input;
 use cases::input::Source;
 use cases::part::after;
 use cases::part::at;
 use cases::part::first;
+use trials::board;
+use trials::board::Board;
+use trials::board::Setting;
+use trials::board::set_some;
+use trials::outcome::Outcome;
+use trials::serve::serve;
 ghost use Prim.Native.Nat.{_<_};
 
-// Runs one call.
-fn serve(
-    board: Board,
-    op: u64,
-    rest: &[u64],
-    pool: &[u8],
-    sheet: &[i32],
-    leave: &[i32],
-    add: &[u32],
-    by_letter: &[u32],
-) -> Outcome {
-    if op < 15 {
-        let lattice = board.lattice;
-        return ranks::serve(lattice, op, rest);
+// Whether a record of so many numbers is there, with a source of 0 or 1.
+fn is_read(got: usize, numbers: &[u64]) -> bool {
+    if numbers.len() < got {
+        return false;
     }
-    if op < 20 {
-        return tables::serve(board, op, rest, add, by_letter);
-    }
-    if op < 30 {
-        return plays::serve(board, op, rest, sheet, leave);
-    }
-    variants::serve(board, op, rest, pool, sheet)
+    at(numbers, 1) <= 1
 }
 
-// Runs one record, of so many numbers, and counts what came of it; 0 is no record. A record is a call, a source (0 or 1), inputs and
-// answers.
-fn run_record(
+// Runs one record, of so many numbers: a call, a source, inputs and answers.
+fn act(
     board: Board,
     got: usize,
     numbers: &[u64],
-    counts: &mut [u64],
     pool: &mut [u8],
     sheet: &mut [i32],
     leave: &mut [i32],
     best: &mut [i32],
     add: &mut [u32],
     by_letter: &mut [u32],
-) -> Board {
+) -> Setting {
+    let op = at(numbers, 0);
+    let rest = after(first(numbers, got), 2);
+    if !is_read(got, numbers) {
+        return Setting {
+            board,
+            outcome: Outcome::Differed,
+        };
+    }
+    if op < 6 {
+        return set_some(board, op, rest, pool, sheet, leave, best, add, by_letter);
+    }
+    Setting {
+        board,
+        outcome: serve(board, op, rest, pool, sheet, leave, best, add, by_letter),
+    }
+}
+
+// Counts what came of a record of so many numbers, and gives the board after it; 0 is no record.
+fn counted(setting: Setting, got: usize, numbers: &[u64], counts: &mut [u64]) -> Board {
+    let board = setting.board;
     if got == 0 {
         return board;
     }
-    let op = at(numbers, 0);
-    if numbers.len() < got {
-        count(counts, op, Outcome::Differed);
-        return board;
-    }
-    if 1 < at(numbers, 1) {
-        count(counts, op, Outcome::Differed);
-        return board;
-    }
-    let rest = after(first(numbers, got), 2);
-    if op < 6 {
-        let t = board::set_some(board, op, rest, pool, sheet, leave, best, add, by_letter);
-        let outcome = t.outcome;
-        count(counts, op, outcome);
-        let next = t.board;
-        return next;
-    }
-    let outcome = serve(board, op, rest, pool, sheet, leave, add, by_letter);
-    count(counts, op, outcome);
+    let outcome = setting.outcome;
+    count(counts, at(numbers, 0), outcome);
     board
 }
 
@@ -105,11 +89,10 @@ pub fn run(
         source = input::next(source, buf, numbers);
         let got = input::numbers_of(source);
         left = spent(got, left);
-        board = run_record(
+        let setting = act(
             board,
             got,
             numbers,
-            counts,
             pool,
             sheet,
             leave,
@@ -117,6 +100,7 @@ pub fn run(
             add,
             by_letter,
         );
+        board = counted(setting, got, numbers, counts);
         source = input::opened(source);
     }
     source

@@ -38,29 +38,33 @@ numbers-of-requires c κs = search needs
 spent-requires : tie.Need-spent-requires Inv-loop μ-loop
 spent-requires c κs = search needs
 
-run-record-requires : tie.Need-run-record-requires Inv-loop μ-loop
-run-record-requires c κs = search needs
+act-requires : tie.Need-act-requires Inv-loop μ-loop
+act-requires c κs = search needs
+
+counted-requires : tie.Need-counted-requires Inv-loop μ-loop
+counted-requires c κs = search needs
 
 opened-requires : tie.Need-opened-requires Inv-loop μ-loop
 opened-requires c κs = search needs
 
 loop-less : tie.Need-loop-less Inv-loop μ-loop
-loop-less c = c .before .before .before .before .before .before .before .before .before .before .before .before .before .before .before .before .before .before .before .before .before .spent .ensures
+loop-less c = c .before .before .before .before .before .before .before .before .before .before .before .before .before .before .before .before .before .before .before .before .before .before .before .spent .ensures
 
 loop-again : tie.Need-loop-again Inv-loop μ-loop
 loop-again c =
-    let inv = c .before .before .before .before .before .before .before .before .before .before .before .before .before .before .before .before .before .before .before .before .before .before .before .before .before .before .before .before .before .before .before .loop .inv in
-    let next = c .before .before .before .before .before .before .before .before .before .before .before .before .before .before .before .before .before .before .before .before .before .before .before .before .before .before .before .next .kept in
-    let run = c .before .before .before .before .before .before .before .before .before .before .before .before .run-record .kept in (
+    let inv = c .before .before .before .before .before .before .before .before .before .before .before .before .before .before .before .before .before .before .before .before .before .before .before .before .before .before .before .before .before .before .before .before .before .loop .inv in
+    let next = c .before .before .before .before .before .before .before .before .before .before .before .before .before .before .before .before .before .before .before .before .before .before .before .before .before .before .before .before .before .next .kept in
+    let act = c .before .before .before .before .before .before .before .before .before .before .before .before .before .before .before .act .kept in
+    let count = c .before .before .before .counted .kept in (
       next .1 .0 ∙ inv .0,
       next .1 .1 .0 ∙ inv .1,
-      run .1 .1 .1 .0 ∙ inv .2,
-      run .1 .1 .1 .1 .0 ∙ inv .3,
-      run .1 .1 .1 .1 .1 .0 ∙ inv .4,
-      run .1 .1 .1 .1 .1 .1 .0 ∙ inv .5,
-      run .1 .1 .1 .1 .1 .1 .1 .0 ∙ inv .6,
-      run .1 .1 .1 .1 .1 .1 .1 .1 .0 ∙ inv .7,
-      run .1 .1 .1 .1 .1 .1 .1 .1 .1 .0 ∙ inv .8,
+      count .1 .1 .1 .0 ∙ inv .2,
+      act .1 .1 .1 .0 ∙ inv .3,
+      act .1 .1 .1 .1 .0 ∙ inv .4,
+      act .1 .1 .1 .1 .1 .0 ∙ inv .5,
+      act .1 .1 .1 .1 .1 .1 .0 ∙ inv .6,
+      act .1 .1 .1 .1 .1 .1 .1 .0 ∙ inv .7,
+      act .1 .1 .1 .1 .1 .1 .1 .1 .0 ∙ inv .8,
     )
 
 same-length : tie.Need-same-length Inv-loop μ-loop
@@ -105,7 +109,8 @@ run-spec =
     next-requires
     numbers-of-requires
     spent-requires
-    run-record-requires
+    act-requires
+    counted-requires
     opened-requires
     loop-less
     loop-again

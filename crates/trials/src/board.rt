@@ -1,12 +1,12 @@
 // What the records of a list set: the lattice, its tables of ranks, the pool, the sheet, the leave and the best table.
-use crate::counts::Outcome;
-use crate::counts::set;
+use crate::outcome::Outcome;
+use crate::outcome::said;
+use crate::outcome::set;
 use cases::fill;
 use cases::part::after;
 use cases::part::after_counted;
 use cases::part::at;
-use cases::part::counted;
-use cases::part::is_counted;
+use cases::part::size;
 use cases::same;
 use lattice::Lattice;
 use lattice::Ranked;
@@ -97,6 +97,13 @@ fn make_tables(lattice: Lattice, entries: usize, add: &mut [u32], by_letter: &mu
     fill_tables(lattice, &mut add[0..entries], &mut by_letter[0..entries])
 }
 
+fn lattice_of(rest: &[u64]) -> Lattice {
+    Lattice {
+        n: at(rest, 0) as usize,
+        r: at(rest, 1) as usize,
+    }
+}
+
 // Whether the answers are a number, a length and a start.
 fn are_sizes(rest: &[u64], len: Ranked, start: Ranked) -> bool {
     if rest.len() != 3 {
@@ -114,58 +121,55 @@ fn are_sizes(rest: &[u64], len: Ranked, start: Ranked) -> bool {
     at(rest, 2) == value_of(start)
 }
 
-// Sets the lattice: n, r; no, length, start of the full racks.
-fn set_lattice(board: Board, rest: &[u64], add: &mut [u32], by_letter: &mut [u32]) -> Setting {
-    let n = at(rest, 0) as usize;
-    let r = at(rest, 1) as usize;
-    let lattice = Lattice { n, r };
-    let len = lattice.len();
-    let start = lattice.full_rack_start();
-    let size = size_of(len);
-    let leaves = size_of(start);
-    let table = table_size(leaves, n, add.len());
-    let made = make_tables(lattice, table, add, by_letter);
-    let right = are_sizes(after(rest, 2), len, start);
-    Setting {
-        board: Board {
-            lattice,
-            size,
-            leaves,
-            table,
-            pool: board.pool,
-            sheet: board.sheet,
-            leave: board.leave,
-            best: board.best,
-        },
-        outcome: crate::counts::said(right && made),
+// Whether the answers are those of len and full_rack_start.
+fn is_lattice(rest: &[u64], lattice: Lattice) -> bool {
+    are_sizes(rest, lattice.len(), lattice.full_rack_start())
+}
+
+// The board with another lattice, where there is so much room for a table.
+fn with_lattice(board: Board, lattice: Lattice, room: usize) -> Board {
+    let n = lattice.n;
+    let leaves = size_of(lattice.full_rack_start());
+    Board {
+        lattice,
+        size: size_of(lattice.len()),
+        leaves,
+        table: table_size(leaves, n, room),
+        pool: board.pool,
+        sheet: board.sheet,
+        leave: board.leave,
+        best: board.best,
     }
 }
 
-// Whether a record holds a counted list and nothing else.
-fn is_list(rest: &[u64]) -> bool {
-    if !is_counted(rest) {
-        return false;
+// Sets the lattice: n, r; no, length, start of the full racks.
+fn set_lattice(board: Board, rest: &[u64], add: &mut [u32], by_letter: &mut [u32]) -> Setting {
+    let lattice = lattice_of(rest);
+    let next = with_lattice(board, lattice, add.len());
+    let made = make_tables(lattice, next.table, add, by_letter);
+    Setting {
+        board: next,
+        outcome: said(made && is_lattice(after(rest, 2), lattice)),
     }
-    after_counted(rest).len() == 0
 }
 
 fn load_pool(rest: &[u64], pool: &mut [u8]) -> bool {
-    if is_list(rest) {
-        return fill::load_bytes(counted(rest), pool);
+    if fill::load_counted_bytes(rest, pool) {
+        return after_counted(rest).len() == 0;
     }
     false
 }
 
 fn load_entries(rest: &[u64], entries: &mut [i32]) -> bool {
-    if is_list(rest) {
-        return fill::load_entries(counted(rest), entries);
+    if fill::load_counted_entries(rest, entries) {
+        return after_counted(rest).len() == 0;
     }
     false
 }
 
 // How many entries a list has, 0 where it could not be set.
 fn length_of(right: bool, rest: &[u64]) -> usize {
-    if right { counted(rest).len() } else { 0 }
+    if right { size(rest) } else { 0 }
 }
 
 fn set_pool(mut board: Board, rest: &[u64], pool: &mut [u8]) -> Setting {

@@ -1,16 +1,15 @@
 // Ranks: calls 10 to 14.
 use crate::board::number_of;
 use crate::board::value_of;
-use crate::counts::Outcome;
-use crate::counts::said;
+use crate::outcome::Outcome;
+use crate::outcome::said;
 use cases::fill;
 use cases::part::after;
 use cases::part::after_counted;
 use cases::part::at;
-use cases::part::counted;
 use cases::part::first_u8;
-use cases::part::is_counted;
 use cases::part::shorter;
+use cases::part::size;
 use cases::same;
 use lattice::Lattice;
 use lattice::Ranked;
@@ -28,55 +27,50 @@ fn size_start(lattice: Lattice, rest: &[u64]) -> bool {
 
 // rank: counted tally; no, rank.
 fn rank(lattice: Lattice, rest: &[u64], tally: &mut [u8]) -> bool {
-    if !is_counted(rest) {
-        return false;
+    if fill::load_counted_bytes(rest, tally) {
+        let answer = lattice.rank(first_u8(tally, size(rest)));
+        return is_ranked(after_counted(rest), answer);
     }
-    let list = counted(rest);
-    if !fill::load_bytes(list, tally) {
-        return false;
-    }
-    is_ranked(
-        after_counted(rest),
-        lattice.rank(first_u8(tally, list.len())),
-    )
+    false
+}
+
+// The call of rank_sparse on so many letters and counts; no, rank.
+fn sparse_called(
+    lattice: Lattice,
+    s: usize,
+    answers: &[u64],
+    letters: &[u8],
+    counts: &[u8],
+) -> bool {
+    is_ranked(answers, lattice.rank_sparse(s, letters, counts))
 }
 
 // rank_sparse: s, counted letters, counted counts; no, rank.
 fn rank_sparse(lattice: Lattice, rest: &[u64], letters: &mut [u8], counts: &mut [u8]) -> bool {
-    let s = at(rest, 0) as usize;
     let of_letters = after(rest, 1);
-    if !is_counted(of_letters) {
+    if !fill::load_counted_bytes(of_letters, letters) {
         return false;
     }
     let of_counts = after_counted(of_letters);
-    if !is_counted(of_counts) {
+    if !fill::load_counted_bytes(of_counts, counts) {
         return false;
     }
-    let x = counted(of_letters);
-    let y = counted(of_counts);
-    if !fill::load_bytes(x, letters) {
-        return false;
-    }
-    if !fill::load_bytes(y, counts) {
-        return false;
-    }
-    let answer = lattice.rank_sparse(s, first_u8(letters, x.len()), first_u8(counts, y.len()));
-    is_ranked(after_counted(of_counts), answer)
+    sparse_called(
+        lattice,
+        at(rest, 0) as usize,
+        after_counted(of_counts),
+        first_u8(letters, size(of_letters)),
+        first_u8(counts, size(of_counts)),
+    )
 }
 
 // rank_bytes: counted bytes; no, rank.
 fn rank_bytes(lattice: Lattice, rest: &[u64], tiles: &mut [u8]) -> bool {
-    if !is_counted(rest) {
-        return false;
+    if fill::load_counted_bytes(rest, tiles) {
+        let answer = lattice.rank_bytes(first_u8(tiles, size(rest)));
+        return is_ranked(after_counted(rest), answer);
     }
-    let list = counted(rest);
-    if !fill::load_bytes(list, tiles) {
-        return false;
-    }
-    is_ranked(
-        after_counted(rest),
-        lattice.rank_bytes(first_u8(tiles, list.len())),
-    )
+    false
 }
 
 // The call of unrank_into on a slice that holds one byte throughout; no, the slice after.

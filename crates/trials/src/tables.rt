@@ -1,7 +1,7 @@
 // Tables of ranks and binomials: calls 15 to 18.
 use crate::board::Board;
-use crate::counts::Outcome;
-use crate::counts::said;
+use crate::outcome::Outcome;
+use crate::outcome::said;
 use cases::fill;
 use cases::part::after;
 use cases::part::after_counted;
@@ -15,7 +15,7 @@ use lattice::Lattice;
 use lattice::triangle;
 
 // Makes one entry of a table of so many entries one greater; entries are counted from 1, and 0 is none.
-pub fn spoil(table: &mut [u32], entries: usize, d: u64) {
+fn spoil(table: &mut [u32], entries: usize, d: u64) {
     if 0 < d {
         let i = (d - 1) as usize;
         if i < entries {
@@ -24,6 +24,32 @@ pub fn spoil(table: &mut [u32], entries: usize, d: u64) {
             }
         }
     }
+}
+
+// How far d is past k.
+fn past(d: u64, k: usize) -> u64 {
+    if k as u64 <= d { d - k as u64 } else { 0 }
+}
+
+// A copy of an add table of so many entries, with the damage that is asked.
+pub fn damaged_add(board: Board, damage: u64, add: &[u32], copy: &mut [u32]) {
+    fill::copy_ranks(add, copy);
+    spoil(copy, board.table, damage);
+}
+
+// A copy of the same letter by letter: its entries are counted on from those of the add table.
+pub fn damaged_letters(board: Board, damage: u64, by_letter: &[u32], copy: &mut [u32]) {
+    let table = board.table;
+    fill::copy_ranks(by_letter, copy);
+    spoil(copy, table, past(damage, table));
+}
+
+// How many entries of the table letter by letter are handed over: letters is 1 for the whole and 0 for none.
+pub fn letters_size(board: Board, letters: u64, short: bool) -> usize {
+    if letters == 0 {
+        return 0;
+    }
+    shorter(board.table, short)
 }
 
 // The call of pascal_rows on a slice of sevens; no, the slice after.
@@ -101,8 +127,7 @@ fn fill_by_letter(
     copy: &mut [u32],
     out: &mut [u32],
 ) -> bool {
-    fill::copy_ranks(add, copy);
-    spoil(copy, board.table, at(rest, 1));
+    damaged_add(board, at(rest, 1), add, copy);
     by_letter_over(board, rest, copy, out)
 }
 
@@ -117,14 +142,11 @@ fn letter(board: Board, rest: &[u64], by_letter: &[u32]) -> bool {
     if after_counted(answers).len() != 0 {
         return false;
     }
-    if at(rest, 0) == 0 {
-        return same::ranks(counted(answers), lattice.letter(first_u32(by_letter, 0), t));
-    }
-    let table = board.table;
-    same::ranks(
-        counted(answers),
-        lattice.letter(first_u32(by_letter, table), t),
-    )
+    let part = lattice.letter(
+        first_u32(by_letter, letters_size(board, at(rest, 0), false)),
+        t,
+    );
+    same::ranks(counted(answers), part)
 }
 
 fn call(

@@ -1,9 +1,9 @@
--- `replay::board::table_size` is safe: the product is within the room.
+-- `trials::board::table_size` is safe: the product is within the room.
 use native.Mathlib.Omega.{arith}
 use native.Mathlib.Nat.{le-div-iff-mul-le}
 use borrow.Author.Needs.{needs}
-use Rattle.replay.proofs.board.table_size.Statement.{statement}
-use Rattle.replay.proofs.board.table_size.Tie as tie
+use Rattle.trials.proofs.board.table_size.Statement.{statement}
+use Rattle.trials.proofs.board.table_size.Tie as tie
 
 returns : tie.Need-returns
 returns c = search needs
