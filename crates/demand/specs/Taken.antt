@@ -23,15 +23,14 @@ use Rattle.search.specs.Split.{Bounded, worth, bestFrom, bestOf, bestSplit}
 use Rattle.maxima.specs.Judge.{SubsetMax}
 use Rattle.scatter.specs.Scatter.{played, offered, scatterAt}
 use Rattle.scatter.specs.Every.{IsScatter}
-use Rattle.sums.specs.Weight as Sw
-use Rattle.sums.specs.Weight.{Clear}
+use Rattle.sums.specs.Weight.{largest, Clear}
 use Rattle.fused.specs.Splits.{Split}
 use Rattle.fused.specs.Answer as Fu
 use Rattle.fused.specs.Answer.{input, lent, modeBest, Sound, Filled}
 use Rattle.fused.specs.Modes.{mode-split}
 use Rattle.fused.specs.declared.mode.Mode.{Mode}
 use Rattle.table_sums.specs.Table as Ts
-use Rattle.table_sums.specs.Table.{bestAt, largest}
+use Rattle.table_sums.specs.Table.{bestAt}
 use Rattle.demand.specs.Demand.{Board, table, fused, Premises, Called}
 
 abbrev pub board : Board
@@ -171,7 +170,7 @@ module _ (mode : Mode) where
   words e = record { word-sheet = record { nonnegative = nonnegative; no-tiles = refl }; is-max = zero-max }
 
   sound : Sound given
-  unfolding binomial total start Sw.largest lattice tallies upto concatMap Bounded
+  unfolding binomial total start largest lattice tallies upto concatMap Bounded
   sound = record {
     sizes = served-is;
     lengths = record { in-add = refl; in-by-letter = inl refl; in-sheet = refl; in-leave = refl; in-leave-max = λ e. refl; in-pool = refl };

@@ -27,7 +27,6 @@ use Rattle.search.specs.Answers.{Tabled}
 use Rattle.sums.specs.Weight.{largest}
 use Rattle.sums.specs.Largest.{both-small, split-largest}
 use Rattle.table_sums.specs.Table.{bestAt, mostBest, Limit, Verdict, sizes, lengths, entries, limits, accepted, Apportioned}
-use Rattle.table_sums.specs.Table as Table
 use Rattle.listing.specs.Sizes.{cellsOf, Cells, cells-served}
 use Rattle.listing.specs.Listing.{Board, leaveAt, countAt, sumAt, weight, boardNumber, Asked, Summed}
 use Rattle.listing.proofs.Bounds.{summed}
@@ -113,9 +112,9 @@ module _ {b : Board} {best : ℕ} {num den : List Float} (a : Asked b best num d
 
 -- ---- the table sums of its bests
 
--- every number of a list is at most B, so its largest is
-largest-le : {B : ℕ} {xs : List ℕ} → Every (λ x. x ≤ B) xs → Table.largest xs ≤ B
-unfolding Table.largest
+-- every entry of a list is at most B in size, so its largest is
+largest-le : {B : ℕ} {xs : List ℤ} → Every (λ x. natAbs x ≤ B) xs → largest xs ≤ B
+unfolding largest
 largest-le every-nil = omega arith
 largest-le (every-cons p e) = let h = largest-le e in omega arith
 
@@ -150,7 +149,7 @@ module _ {b : Board} {best best′ : List ℤ} {num den num′ den′ : List Flo
 
   most-few : mostBest (b .n) (b .r) best′ (b .pool) ≤ max 16 (largest (b .sheet) + largest (b .leave))
   most-few =
-      let l = largest-le (every-map (λ (R : List ℕ). natAbs (bestAt (b .n) best′ R)) (every-select (holds (b .pool)) bests-few)) in
+      let l = largest-le (every-map (bestAt (b .n) best′) (every-select (holds (b .pool)) bests-few)) in
       omega arith
 
   limit : Limit (b .n) (b .r) best′ (b .pool)

@@ -26,8 +26,8 @@ use Rattle.lattice.specs.Leaves.{leave-rank}
 use Rattle.lattice.specs.Lattice.{length-lattice-start}
 use Rattle.hands.specs.Hands.{holds, ways, ways-le, ways-drawable, drawable-ways, ways-lacking, handSum-cond}
 use Rattle.hands.specs.Fold.{partial, partial-start-full, partial-start-leave, partial-count-le, partial-sum-le, partial-pos, partial-end, partial-handCount}
-use Rattle.sums.specs.Weight.{Clear}
-use Rattle.table_sums.specs.Table.{bestAt, largest, mostBest, Limit, Filled}
+use Rattle.sums.specs.Weight.{largest, Clear}
+use Rattle.table_sums.specs.Table.{bestAt, mostBest, Limit, Filled}
 use Rattle.table_sums.specs.Racks.{largerAt, mostFrom, Valued}
 use Rattle.table_sums.specs.Passes.{Partly, Folding, Summed}
 
@@ -38,38 +38,35 @@ pub record Ways (pool : List ℕ) (r : ℕ) (xs : List Float) : Type 0 where
 
 -- ---- the largest best
 
-max-assoc : (a b c : ℕ) → max (max a b) c ≡ max a (max b c)
-max-assoc a b c = omega arith
-
 largest-none : (k : ℕ) → max k (largest []) ≡ k
 unfolding largest
 largest-none k = max-zero k
 
-largest-append : (xs ys : List ℕ) → largest (xs ++ ys) ≡ max (largest xs) (largest ys)
+largest-append : (xs ys : List ℤ) → largest (xs ++ ys) ≡ max (largest xs) (largest ys)
 unfolding largest
 largest-append [] ys = sym (zero-max (largest ys))
-largest-append (x ∷ xs) ys = ap (max x) (largest-append xs ys) ∙ sym (max-assoc x (largest xs) (largest ys))
+largest-append (x ∷ xs) ys = let e = largest-append xs ys in omega arith
 
-largest-one : (x : ℕ) → largest (x ∷ []) ≡ x
+largest-one : (x : ℤ) → largest (x ∷ []) ≡ natAbs x
 unfolding largest
-largest-one x = max-zero x
+largest-one x = max-zero (natAbs x)
 
-largest-member : {A : Type 0} (f : A → ℕ) (p : A → Bool) {x : A} {xs : List A} → List·Memᴰ x xs → p x ≡ true → f x ≤ largest (map f (select p xs))
+largest-member : {A : Type 0} (f : A → ℤ) (p : A → Bool) {x : A} {xs : List A} → List·Memᴰ x xs → p x ≡ true → natAbs (f x) ≤ largest (map f (select p xs))
 unfolding largest
 largest-member f p {x} (List·Memᴰ·head {x = y} {xs = ys} e) h = by (p y) (ap p (sym e) ∙ h)
   where
-    by : (b : Bool) → b ≡ true → f x ≤ largest (map f (cond b (y ∷ select p ys) (select p ys)))
-    by true q = rw e (le-max-left (f y) _)
+    by : (b : Bool) → b ≡ true → natAbs (f x) ≤ largest (map f (cond b (y ∷ select p ys) (select p ys)))
+    by true q = rw e (le-max-left (natAbs (f y)) _)
     by false q = absurd (false≢true q)
 largest-member f p {x} (List·Memᴰ·tail {x = y} {xs = ys} m) h = by (p y) (largest-member f p m h)
   where
-    by : (b : Bool) → f x ≤ largest (map f (select p ys)) → f x ≤ largest (map f (cond b (y ∷ select p ys) (select p ys)))
-    by true q = le-trans q (le-max-right (f y) _)
+    by : (b : Bool) → natAbs (f x) ≤ largest (map f (select p ys)) → natAbs (f x) ≤ largest (map f (cond b (y ∷ select p ys) (select p ys)))
+    by true q = le-trans q (le-max-right (natAbs (f y)) _)
     by false q = q
 
 -- M bounds each best that counts
 pub best-within : (n r : ℕ) (best : List ℤ) (pool R : List ℕ) → Fits n r R → holds pool R ≡ true → natAbs (bestAt n best R) ≤ mostBest n r best pool
-best-within n r best pool R f h = le-trans (largest-member (λ (R : List ℕ). natAbs (bestAt n best R)) (holds pool) (tallies-all n r R f) h) (le-max-right 16 _)
+best-within n r best pool R f h = le-trans (largest-member (bestAt n best) (holds pool) (tallies-all n r R f) h) (le-max-right 16 _)
 
 select-append : {A : Type 0} (p : A → Bool) (xs ys : List A) → select p (xs ++ ys) ≡ select p xs ++ select p ys
 select-append p [] ys = refl
@@ -79,19 +76,19 @@ select-append {A} p (x ∷ xs) ys = by (p x) (select-append p xs ys)
     by true e = ap {B = List A} (λ l. x ∷ l) e
     by false e = e
 
-module _ {A : Type 0} (f : A → ℕ) (p : A → Bool) where
+module _ {A : Type 0} (f : A → ℤ) (p : A → Bool) where
+  abbrev largestOf : List A → ℕ
+  largestOf xs = largest (map f (select p xs))
+
   -- one element more at the end
-  most-more : (xs : List A) (x : A) (m : ℕ) → max m (largest (map f (select p (xs ++ (x ∷ []))))) ≡ cond (p x) (max (max m (largest (map f (select p xs)))) (f x)) (max m (largest (map f (select p xs))))
+  most-more : (xs : List A) (x : A) (m : ℕ) → max m (largestOf (xs ++ (x ∷ []))) ≡ cond (p x) (max (max m (largestOf xs)) (natAbs (f x))) (max m (largestOf xs))
   most-more xs x m = ap (λ (l : List A). max m (largest (map f l))) (select-append p xs (x ∷ [])) ∙ by (p x)
     where
-      by : (b : Bool) → max m (largest (map f (select p xs ++ cond b (x ∷ []) []))) ≡ cond b (max (max m (largest (map f (select p xs)))) (f x)) (max m (largest (map f (select p xs))))
+      by : (b : Bool) → max m (largest (map f (select p xs ++ cond b (x ∷ []) []))) ≡ cond b (max (max m (largestOf xs)) (natAbs (f x))) (max m (largestOf xs))
       by true =
-          ap (λ (l : List ℕ). max m (largest l)) (map-append f (select p xs) (x ∷ []))
-          ∙ ap (max m) (largest-append (map f (select p xs)) (f x ∷ []) ∙ ap (max (largest (map f (select p xs)))) (largest-one (f x)))
-          ∙ sym (max-assoc m (largest (map f (select p xs))) (f x))
-      by false =
-          ap (λ (l : List ℕ). max m (largest l)) (map-append f (select p xs) [])
-          ∙ ap (max m) (largest-append (map f (select p xs)) [] ∙ largest-none (largest (map f (select p xs))))
+          let e = ap largest (map-append f (select p xs) (x ∷ [])) ∙ largest-append (map f (select p xs)) (f x ∷ []) ∙ ap (max (largestOf xs)) (largest-one (f x)) in
+          ap (max m) e ∙ omega arith
+      by false = ap (max m) (ap largest (map-append f (select p xs) []) ∙ largest-append (map f (select p xs)) [] ∙ largest-none (largestOf xs))
 
 -- ---- the racks by rank
 
@@ -116,25 +113,24 @@ module _ (pool : List ℕ) (r : ℕ) where
         ∙ T-ext (ltb 0 (ways pool R)) (holds pool R) (λ h. ways-drawable pool R (f .letters) (ltb→lt 0 (ways pool R) h)) (λ h. lt→ltb 0 (ways pool R) (drawable-ways pool R h))
 
     -- the loop's largest, rack after rack
-    most-upto : (k : ℕ) → k ≤ length (tallies n r)
-        → mostFrom (start n r) best xs k ≡ max 16 (largest (map (λ (R : List ℕ). natAbs (bestAt n best R)) (select (holds pool) (take k (tallies n r)))))
+    most-upto : (k : ℕ) → k ≤ length (tallies n r) → mostFrom (start n r) best xs k ≡ max 16 (largestOf (bestAt n best) (holds pool) (take k (tallies n r)))
     unfolding largerAt
     most-upto zero h = sym (largest-none 16)
     most-upto (suc k) h =
         let R = getD (tallies n r) k [] in
         let f : Fits n r R = tally-at-fits n r k h in
         let e : start n r + k ≡ rankOf n R = sym (rack-at k h) in
-        let size : List ℕ → ℕ = λ (R : List ℕ). natAbs (bestAt n best R) in
+        let M : ℕ = max 16 (largestOf (bestAt n best) (holds pool) (take k (tallies n r))) in
         ap (λ (m : ℕ). cond (lt (ofBits binary64 0) (getD xs (start n r + k) nan)) (max m (natAbs (atℤ best (start n r + k)))) m) (most-upto k (omega arith))
-        ∙ ap (λ (j : ℕ). cond (lt (ofBits binary64 0) (getD xs j nan)) (max (max 16 (largest (map size (select (holds pool) (take k (tallies n r)))))) (natAbs (atℤ best j))) (max 16 (largest (map size (select (holds pool) (take k (tallies n r))))))) e
-        ∙ ap (λ (b : Bool). cond b (max (max 16 (largest (map size (select (holds pool) (take k (tallies n r)))))) (size R)) (max 16 (largest (map size (select (holds pool) (take k (tallies n r))))))) (way-there R f)
-        ∙ sym (most-more size (holds pool) (take k (tallies n r)) R 16)
-        ∙ ap (λ (l : List (List ℕ)). max 16 (largest (map size (select (holds pool) l)))) (sym (take-suc (tallies n r) k [] h))
+        ∙ ap (λ (j : ℕ). cond (lt (ofBits binary64 0) (getD xs j nan)) (max M (natAbs (atℤ best j))) M) e
+        ∙ ap (λ (b : Bool). cond b (max M (natAbs (bestAt n best R))) M) (way-there R f)
+        ∙ sym (most-more (bestAt n best) (holds pool) (take k (tallies n r)) R 16)
+        ∙ ap (λ (l : List (List ℕ)). max 16 (largestOf (bestAt n best) (holds pool) l)) (sym (take-suc (tallies n r) k [] h))
 
     pub most-is : (k : ℕ) → k ≡ length (tallies n r) → mostFrom (start n r) best xs k ≡ mostBest n r best pool
     most-is k e =
         most-upto k (le-of-eq e)
-        ∙ ap (λ (l : List (List ℕ)). max 16 (largest (map (λ (R : List ℕ). natAbs (bestAt n best R)) (select (holds pool) l)))) (ap (λ (j : ℕ). take j (tallies n r)) e ∙ take-length (tallies n r))
+        ∙ ap (λ (l : List (List ℕ)). max 16 (largestOf (bestAt n best) (holds pool) l)) (ap (λ (j : ℕ). take j (tallies n r)) e ∙ take-length (tallies n r))
 
   -- ---- what the passes start from
 

@@ -15,7 +15,7 @@ use Rattle.lattice.specs.Tally.{total, tallies, rankOf}
 use Rattle.lattice.specs.Rank.{AtMost}
 use Rattle.lattice.specs.Answers.{served}
 use Rattle.hands.specs.Hands.{holds, handSum, handCount}
-use Rattle.sums.specs.Weight.{Clear}
+use Rattle.sums.specs.Weight.{largest, Clear}
 
 -- a rack's best, by its rank
 abbrev pub bestAt : ℕ → List ℤ → List ℕ → ℤ
@@ -30,14 +30,9 @@ pub record Sized (n r : ℕ) (best : List ℤ) (pool : List ℕ) (num den : List
   pub nums : length num ≡ binomial (n + r) n
   pub dens : length den ≡ binomial (n + r) n
 
--- the largest of some numbers
-unfoldable pub largest : List ℕ → ℕ
-largest [] = 0
-largest (x ∷ xs) = max x (largest xs)
-
 -- M: the largest absolute best over the full racks that can be drawn, and at least 16
 abbrev pub mostBest : ℕ → ℕ → List ℤ → List ℕ → ℕ
-mostBest n r best pool = max 16 (largest (map (λ (R : List ℕ). natAbs (bestAt n best R)) (select (holds pool) (tallies n r))))
+mostBest n r best pool = max 16 (largest (map (bestAt n best) (select (holds pool) (tallies n r))))
 
 -- 9: W × M is at most 2 ^ 53, where W is C(tiles in pool, r)
 pub record Limit (n r : ℕ) (best : List ℤ) (pool : List ℕ) : Type 0 where
