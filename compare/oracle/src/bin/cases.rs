@@ -559,7 +559,9 @@ impl<W: Write> Cases<W> {
             self.best_table(b, &good, short);
         }
         let damage = 1 + self.rng.below(2 * (m.lo() * n) as u64) as i128;
-        for short in 1..=4 {
+        // a letter table of one entry, made one shorter, is empty, which is accepted
+        let shorter_is_empty = m.lo() * n == 1;
+        for short in 1..=if shorter_is_empty { 3 } else { 4 } {
             self.subset(b, &good, 0, true, Bad { short, ..GOOD });
         }
         self.subset(b, &good, 0, true, Bad { damage, ..GOOD });
@@ -573,7 +575,7 @@ impl<W: Write> Cases<W> {
         for dirty in 1..=2 {
             self.table_sums(b, &best, &good.pool, Bad { dirty, ..GOOD });
         }
-        for short in 1..=9 {
+        for short in 1..=if shorter_is_empty { 8 } else { 9 } {
             self.fused(b, &good, scatter, true, Bad { short, leave_max: 1, ..GOOD });
         }
         for leave_max in [0, 2, 3] {
