@@ -1,6 +1,9 @@
 // Writes inputs for the census listing with what it must print, K.in and K.out, into a folder. The original has no such program: the sums are
 // its apportion_fused over best splits, and the model's; the text and the refusals are document 01's.
 //   listing SEED COUNT FOLDER
+// Or runs a listing program on document 01's text with each byte changed, doubled or taken out, and cut at each place, and compares what it
+// prints with a plain reading of the text:
+//   listing damaged PROGRAM
 use oracle::calls::{self, Sums, add_table};
 use oracle::census::*;
 use oracle::model::{self, Lattice, Mode};
@@ -40,14 +43,86 @@ fn text<T: std::fmt::Display>(v: &[T], rng: &mut Rng) -> String {
     s
 }
 
+const EXAMPLE: &str = "2 2\n1 2\n0 2 1 10 30 5\n0 4 7 1 3 -2\n";
+
+// a token as a whole number: digits after an optional minus; none where it is no number, or beyond every type
+fn number(token: &[u8]) -> Option<i128> {
+    let digits = token.strip_prefix(b"-").unwrap_or(token);
+    if digits.is_empty() || !digits.iter().all(u8::is_ascii_digit) {
+        return None;
+    }
+    std::str::from_utf8(token).unwrap().parse().ok()
+}
+
+// what the listing prints for a text
+fn answer(text: &[u8]) -> String {
+    let tokens: Vec<_> = text.split(|b| b" \t\n\r".contains(b)).filter(|t| !t.is_empty()).map(number).collect();
+    let size = |k: usize| tokens.get(k).copied().flatten().filter(|&v| (0..1 << 64).contains(&v));
+    let (Some(n), Some(r)) = (size(0), size(1)) else { return "2\n".into() };
+    let served = (1..=64).contains(&n) && (1..=15).contains(&r);
+    let len = if served { model::binom((n + r) as u128, n as u128) } else { 0 };
+    if len == 0 || len > 512 {
+        return "1\n".into();
+    }
+    let (n, r, len) = (n as usize, r as usize, len as usize);
+    let rest: Option<Vec<i128>> = tokens[2..].iter().copied().collect();
+    let Some(rest) = rest.filter(|v| v.len() == n + 2 * len) else { return "2\n".into() };
+    let pool: Option<Vec<u8>> = rest[..n].iter().map(|&v| v.try_into().ok()).collect();
+    let entries: Option<Vec<i32>> = rest[n..].iter().map(|&v| v.try_into().ok()).collect();
+    match (pool, entries) {
+        (Some(pool), Some(entries)) => print(n, r, &pool, &entries[..len], &entries[len..]),
+        _ => "2\n".into(),
+    }
+}
+
+// the example damaged in every way, each text once
+fn damaged() -> std::collections::BTreeSet<Vec<u8>> {
+    let good = EXAMPLE.as_bytes();
+    let mut texts = std::collections::BTreeSet::from([good.to_vec()]);
+    for k in 0..good.len() {
+        texts.insert(good[..k].to_vec());
+        texts.insert([&good[..k], &good[k + 1..]].concat());
+        texts.insert([&good[..=k], &good[k..]].concat());
+        for b in *b"0123456789- \n\t\r+x.\0\xff" {
+            texts.insert([&good[..k], &[b], &good[k + 1..]].concat());
+        }
+    }
+    texts
+}
+
+fn run(program: &str, text: &[u8]) -> Vec<u8> {
+    use std::io::Write;
+    use std::process::{Command, Stdio};
+    let mut child = Command::new(program).stdin(Stdio::piped()).stdout(Stdio::piped()).spawn().unwrap();
+    child.stdin.take().unwrap().write_all(text).unwrap();
+    child.wait_with_output().unwrap().stdout
+}
+
+fn run_damaged(program: &str) {
+    let texts = damaged();
+    let mut differed = 0;
+    for text in &texts {
+        let (got, want) = (run(program, text), answer(text));
+        if got != want.as_bytes() {
+            differed += 1;
+            println!("differs: {:?}", String::from_utf8_lossy(text));
+        }
+    }
+    println!("{} agreed, {differed} differed", texts.len() - differed);
+    std::process::exit((differed != 0) as i32);
+}
+
 fn main() {
     let args: Vec<String> = std::env::args().collect();
+    if args[1] == "damaged" {
+        return run_damaged(&args[2]);
+    }
     let mut rng = Rng(args[1].parse().unwrap());
     let count: usize = args[2].parse().unwrap();
     let folder = &args[3];
     std::fs::create_dir_all(folder).unwrap();
     let mut cases: Vec<(String, String)> = vec![(
-        "2 2\n1 2\n0 2 1 10 30 5\n0 4 7 1 3 -2\n".into(),
+        EXAMPLE.into(),
         print(2, 2, &[1, 2], &[0, 2, 1, 10, 30, 5], &[0, 4, 7, 1, 3, -2]),
     )];
     // sizes: judged before the rest is read
