@@ -449,7 +449,7 @@ several batches. A ratio is the original's time over the port's, so above 1 the 
 is by how much the original's slowest run passes its fastest. What the port gives is compared with what the original gives. Written by
 `bench RUNS` of `compare/`:
 
-    rt staticlib census && cd compare && cargo run -j1 --release --offline --bin bench -- RUNS > ../docs/SPEED.md
+    rt staticlib census && cd docs && cargo run --manifest-path ../compare/Cargo.toml -j1 --release --offline --bin bench -- RUNS > SPEED.md
 
 - The port tests its sizes, lengths and tables at each call, which the original does not.
 - The fused sums have the letter table at hand. Their four settings are those that run different code; sums are made +0.0 before a call, which is not timed.
@@ -461,6 +461,27 @@ is by how much the original's slowest run passes its fastest. What the port give
 fn thread() -> f64 {
     let batch = || seconds(|| (0..1000).for_each(|_| std::thread::scope(|s| drop(s.spawn(|| ()))))).0 / 1000.0;
     (0..12).map(|_| batch()).fold(f64::MAX, f64::min)
+}
+
+// A chart of the ratios, the best run of each call: a bar to the right of the line is a call that the port does faster. Each tenfold is 150 wide.
+fn chart(title: &str, runs: &[Vec<Race>]) -> String {
+    let (label, middle, line) = (170.0, 480.0, 20.0);
+    let mut bars = String::new();
+    for (k, race) in runs[0].iter().enumerate() {
+        let ratio = runs.iter().map(|r| r[k].original / r[k].port).fold(0.0, f64::max);
+        let wide = (ratio.log10() * 150.0).clamp(-300.0, 320.0);
+        let (from, y) = (middle + wide.min(0.0), 46.0 + line * k as f64);
+        let colour = if ratio < 1.0 { "#c66" } else { "#6a6" };
+        bars.push_str(&format!(
+            "<text x='{:.0}' y='{:.0}' text-anchor='end'>{}</text>\n<rect x='{from:.1}' y='{:.1}' width='{:.1}' height='13' fill='{colour}'/>\n<text x='{:.0}' y='{:.0}'>{ratio:.2}</text>\n",
+            label, y + 11.0, race.call, y, wide.abs(), middle + wide.max(0.0) + 5.0, y + 11.0,
+        ));
+    }
+    let high = 60.0 + line * runs[0].len() as f64;
+    format!(
+        "<svg xmlns='http://www.w3.org/2000/svg' viewBox='-330 0 1200 {high:.0}' font-family='sans-serif' font-size='12'>\n<rect x='-330' width='1200' height='{high:.0}' fill='white'/>\n<text x='-320' y='20' font-size='15'>{title}: the original's time over the port's</text>\n{bars}<line x1='{middle}' x2='{middle}' y1='36' y2='{:.0}' stroke='black'/>\n</svg>\n",
+        high - 10.0
+    )
 }
 
 fn main() {
@@ -486,5 +507,8 @@ fn main() {
         );
         let all: Vec<Vec<Race>> = (0..runs).map(|_| run(b, *batches, *long_batches)).collect();
         table(&all);
+        let file = format!("speed-{}-{}.svg", b.n, b.r);
+        std::fs::write(&file, chart(&format!("{} letters, {} tiles", b.n, b.r), &all)).expect("the chart is written");
+        println!("![the ratios]({file})\n");
     }
 }
