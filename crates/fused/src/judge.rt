@@ -7,7 +7,7 @@ ghost use lib.ListN.{length};
 ghost use Rattle.lattice.specs.AddRows.{Decides};
 ghost use Rattle.lattice.specs.Answers.{served};
 ghost use Rattle.lattice.specs.Binomial.{binomial};
-ghost use Rattle.lattice.specs.Leaves.{AddTable};
+ghost use Rattle.lattice.specs.TableCalls.{Tables};
 ghost use Rattle.lattice.specs.Tally.{total, lattice, start};
 ghost use Rattle.fused.specs.Answer.{input, lent, inForce, ReadLengths, LentLengths, WordSheet, Words, Cleared, FusedNumber};
 use crate::mode::Mode;
@@ -124,12 +124,13 @@ fn scatters(
     r: usize,
     lo: usize,
     add: &[u32],
+    by_letter: &[u32],
     sheet: &[i32],
     leave: &[i32],
     leave_max: &[i32],
     mode: Mode,
 ) -> bool
-    requires { ⌜ (n ≤ 64) × (lo ≡ start n r) × AddTable n r (now add) × (length (now sheet) ≡ length (lattice n r)) × (length (now leave) ≡ length (lattice n r))
+    requires { ⌜ (n ≤ 64) × (lo ≡ start n r) × Tables n r (now add) (now «by_letter») × (length (now sheet) ≡ length (lattice n r)) × (length (now leave) ≡ length (lattice n r))
         × (inForce mode ≡ true → length (now «leave_max») ≡ length (lattice n r)) ⌝ }
     ensures { λ b. ⌜ Decides b (inForce mode ≡ true → Words n r (now (sheet .entry)) (now (leave .entry)) (now («leave_max» .entry))) ⌝ }
 {
@@ -137,7 +138,7 @@ fn scatters(
         if !word_sheet(sheet) {
             return false;
         }
-        if is_subset_max(n, r, lo, add, leave, leave_max) {
+        if is_subset_max(n, r, lo, add, by_letter, leave, leave_max) {
             return true;
         }
         return false;
@@ -212,7 +213,7 @@ pub fn refusal(
     if !tables_are_right(n, r, lo, add, by_letter) {
         return 6;
     }
-    if !scatters(n, r, lo, add, sheet, leave, leave_max, mode) {
+    if !scatters(n, r, lo, add, by_letter, sheet, leave, leave_max, mode) {
         return 7;
     }
     if !cleared(num, den, ways) {
