@@ -57,8 +57,25 @@ impl Bench {
         self.races.push(race);
     }
 
+    // the last call again, with the port's time less what it takes to judge its tables; the closure gives the seconds of one judging
+    fn without_judging(&mut self, wanted: Option<f64>, mut judging: impl FnMut() -> f64) {
+        let least = (0..self.batches).map(|_| judging()).fold(f64::MAX, f64::min);
+        let last = self.races.last().unwrap();
+        let race =
+            Race { call: format!("{}, judging left out", last.call), wanted, original: last.original, port: last.port - least };
+        eprintln!("{}: {:.3e} s, {:.3e} s", race.call, race.original, race.port);
+        self.races.push(race);
+    }
+
     // calls that are short: batches of passes over the items, each of at least 10 ms
-    fn race_short<T>(&mut self, call: &str, items: &[T], mut original: impl FnMut(&T) -> u64, mut port: impl FnMut(&T) -> u64) {
+    fn race_short<T>(
+        &mut self,
+        call: &str,
+        wanted: Option<f64>,
+        items: &[T],
+        mut original: impl FnMut(&T) -> u64,
+        mut port: impl FnMut(&T) -> u64,
+    ) {
         let pass = |f: &mut dyn FnMut(&T) -> u64, passes: u32| {
             let (time, sum) = seconds(|| {
                 let mut sum = 0u64;
@@ -81,7 +98,7 @@ impl Bench {
         };
         let (a, b) = (enough(&mut original), enough(&mut port));
         let each = |passes: u32| passes as f64 * items.len() as f64;
-        self.race(call, None, || pass(&mut original, a) / each(a), || pass(&mut port, b) / each(b));
+        self.race(call, wanted, || pass(&mut original, a) / each(a), || pass(&mut port, b) / each(b));
     }
 }
 
@@ -106,6 +123,11 @@ fn drawn(rng: &mut Rng, pool: &[u8], k: usize) -> Vec<u8> {
 }
 
 impl Board {
+    // a ratio that is asked for on the large lattice alone
+    fn on_large(&self, wanted: f64) -> Option<f64> {
+        (self.n == ENGLISH.len()).then_some(wanted)
+    }
+
     // a sheet with about so many words; leaves by a worth for each letter, less for repeats, with some noise; in thousandths of a point
     fn new(rng: &mut Rng, n: usize, r: usize, pool: Vec<u8>, words: usize) -> Self {
         let lat = MultisetLattice::new(n, r).unwrap();
@@ -152,9 +174,20 @@ fn tables(bench: &mut Bench, b: &Board) {
     let original = bench.races.last().unwrap().original;
     let at_hand = || each(seconds(|| (0..calls).for_each(|_| filled(black_box(&mut add)))).0);
     bench.race("add table, into a slice at hand", Some(30.0), || original, at_hand);
+    let (filling, wrong) = (bench.races.last().unwrap().port, last_wrong(&add));
+    let mut letters = vec![0u32; rows * n];
+    bench.race(
+        "judging the add table, beside the port's filling of it",
+        Some(1.0),
+        || filling,
+        || {
+            each(
+                seconds(|| (0..calls).for_each(|_| assert_eq!(port::fill_by_letter(n, r, &wrong, black_box(&mut letters)), 6))).0,
+            )
+        },
+    );
     let theirs = add_table(&b.lat, true);
     assert!((0..rows * n).all(|i| theirs.add(i / n, i % n) as u32 == add[i]));
-    let mut letters = vec![0u32; rows * n];
     bench.race(
         "letter table (the port judges the add table)",
         None,
@@ -176,23 +209,31 @@ fn tables(bench: &mut Bench, b: &Board) {
 fn ranks(bench: &mut Bench, b: &Board, rng: &mut Rng) {
     let (n, r, lat) = (b.n, b.r, &b.lat);
     let racks: Vec<Vec<u8>> = (0..1000).map(|_| drawn(rng, &b.pool, r)).collect();
-    bench.race_short("rank of a rack", &racks, |t| lat.rank(t) as u64, |t| port::rank(n, r, t).value as u64);
+    bench.race_short("rank of a rack", Some(1.0), &racks, |t| lat.rank(t) as u64, |t| port::rank(n, r, t).value as u64);
     let items: Vec<Vec<(u8, u8)>> =
         racks.iter().map(|t| t.iter().enumerate().filter(|x| *x.1 > 0).map(|(t, &c)| (t as u8, c)).collect()).collect();
     let apart: Vec<(Vec<u8>, Vec<u8>)> = items.iter().map(|x| x.iter().copied().unzip()).collect();
     let both: Vec<_> = items.iter().zip(&apart).collect();
     bench.race_short(
         "rank_sparse of a rack",
+        Some(1.0),
         &both,
         |(x, _)| lat.rank_sparse(r, x) as u64,
         |(_, (letters, counts))| port::rank_sparse(n, r, r, letters, counts).value as u64,
     );
     let tiles: Vec<Vec<u8>> = racks.iter().map(|t| oracle::model::tiles_of(t)).collect();
-    bench.race_short("rank_bytes of a rack", &tiles, |t| lat.rank_bytes(t) as u64, |t| port::rank_bytes(n, r, t).value as u64);
+    bench.race_short(
+        "rank_bytes of a rack",
+        Some(1.0),
+        &tiles,
+        |t| lat.rank_bytes(t) as u64,
+        |t| port::rank_bytes(n, r, t).value as u64,
+    );
     let at: Vec<usize> = racks.iter().map(|t| lat.rank(t) as usize).collect();
     let (mut out, mut out2) = (vec![0u8; n], vec![0u8; n]);
     bench.race_short(
         "unrank_into of a full rack",
+        Some(1.0),
         &at,
         |&i| {
             lat.unrank_into(i, &mut out);
@@ -209,7 +250,7 @@ fn best_plays(bench: &mut Bench, b: &Board, rng: &mut Rng) {
     let each = |time: f64| time / calls as f64;
     bench.race(
         "best table",
-        Some(2.0),
+        b.on_large(2.0),
         || each(seconds(|| (0..calls).for_each(|_| best_equity_table(lat, sheet, leave, black_box(&mut theirs)))).0),
         || {
             each(
@@ -224,6 +265,7 @@ fn best_plays(bench: &mut Bench, b: &Board, rng: &mut Rng) {
     let racks: Vec<Vec<u8>> = (0..1000).map(|_| drawn(rng, &b.pool, r)).collect();
     bench.race_short(
         "best of a full rack",
+        b.on_large(1.0),
         &racks,
         |t| best_equity_of(lat, sheet, leave, t) as u64,
         |t| port::best_equity_of(n, r, sheet, leave, t).value as u64,
@@ -231,6 +273,7 @@ fn best_plays(bench: &mut Bench, b: &Board, rng: &mut Rng) {
     let mut kept = vec![0u8; n];
     bench.race_short(
         "naive search of a full rack",
+        b.on_large(0.5),
         &racks,
         |t| naive_best_equity(lat, sheet, leave, t).0 as u64,
         |t| port::naive_best_equity(n, r, sheet, leave, t, &mut kept).value as u64,
@@ -238,6 +281,7 @@ fn best_plays(bench: &mut Bench, b: &Board, rng: &mut Rng) {
     let keep = r / 2 + 1;
     bench.race_short(
         &format!("best leave of {keep} tiles of a full rack"),
+        b.on_large(1.0),
         &racks,
         |t| best_keep_of(lat, leave, t, keep).1 as u64,
         |t| port::best_keep_of(n, r, leave, t, keep).rank as u64,
@@ -261,6 +305,13 @@ impl Ranks {
     }
 }
 
+// A table whose last entry is wrong: a call over it is judged to the end, and does no more.
+fn last_wrong(table: &[u32]) -> Vec<u32> {
+    let mut wrong = table.to_vec();
+    *wrong.last_mut().unwrap() += 1;
+    wrong
+}
+
 fn maxima(bench: &mut Bench, b: &Board, ranks: &Ranks) {
     let (mut theirs, mut ours) = (vec![0; b.lat.len()], vec![0; b.lat.len()]);
     let calls = (200_000 / ranks.add.len()).max(1);
@@ -268,7 +319,7 @@ fn maxima(bench: &mut Bench, b: &Board, ranks: &Ranks) {
     for (table, letters, name) in [(0, &[][..], "without"), (1, &ranks.letters, "with")] {
         bench.race(
             &format!("subset maximum {name} the letter table"),
-            None,
+            b.on_large(0.33),
             || {
                 let one = |_| subset_max_transform(&b.lat, &ranks.theirs[table], &b.leave, black_box(&mut theirs));
                 each(seconds(|| (0..calls).for_each(one)).0)
@@ -280,6 +331,11 @@ fn maxima(bench: &mut Bench, b: &Board, ranks: &Ranks) {
             },
         );
         assert!(theirs == ours);
+        let wrong = if letters.is_empty() { (last_wrong(&ranks.add), vec![]) } else { (ranks.add.clone(), last_wrong(letters)) };
+        bench.without_judging(b.on_large(1.0), || {
+            let one = |_| assert_eq!(port::subset_max_transform(b.n, b.r, &wrong.0, &wrong.1, &b.leave, black_box(&mut ours)), 6);
+            each(seconds(|| (0..calls).for_each(one)).0)
+        });
     }
 }
 
@@ -297,7 +353,7 @@ fn sums(bench: &mut Bench, b: &Board, ranks: &Ranks, best: &[i32]) {
     let ([mut num, mut den], [mut num2, mut den2]) = (zeros(), zeros());
     bench.race(
         "table sums",
-        None,
+        b.on_large(2.0),
         || {
             timed(&mut || {
                 num.fill(0.0);
@@ -319,11 +375,13 @@ fn sums(bench: &mut Bench, b: &Board, ranks: &Ranks, best: &[i32]) {
     subset_max_transform(lat, &ranks.theirs[1], &b.leave, &mut leave_max);
     let board = ApportionBoard { sheet: &b.sheet, leave: &b.leave, leave_max: &leave_max, unseen: &b.pool };
     let (mut theirs, mut ours) = (calls::Sums::new(lat, 0.0, 0), calls::Sums::new(lat, 0.0, 0));
-    for (flags, name) in [(0, "none"), (1, "zeta"), (3, "zeta and null_leave"), (5, "zeta and scatter")] {
+    for (flags, name, wanted) in
+        [(0, "none", 2.0), (1, "zeta", 1.2), (3, "zeta and null_leave", 0.9), (5, "zeta and scatter", 0.9)]
+    {
         let mode = Mode::of(flags);
         bench.race(
             &format!("fused sums, {name}"),
-            None,
+            b.on_large(wanted),
             || {
                 timed(&mut || {
                     theirs.clear();
@@ -356,13 +414,20 @@ fn sums(bench: &mut Bench, b: &Board, ranks: &Ranks, best: &[i32]) {
 fn draws(bench: &mut Bench, b: &Board, ranks: &Ranks, best: &[i32]) {
     let (n, r, pool) = (b.n, b.r, &b.pool[..]);
     bench.race_short(
-        &format!("mean best of {r} tiles drawn, none kept (the port judges the add table)"),
+        &format!("mean best of {r} tiles drawn, none kept"),
+        None,
         &[0usize],
         |&idx| dynamic_leave_value(&b.lat, &ranks.theirs[0], best, pool, idx, r) as u64,
         |&idx| port::dynamic_leave_value(n, r, &ranks.add, best, pool, idx, r).value as u64,
     );
     let theirs = dynamic_leave_value(&b.lat, &ranks.theirs[0], best, pool, 0, r);
     assert_eq!(port::dynamic_leave_value(n, r, &ranks.add, best, pool, 0, r), port::Equity { number: 0, value: theirs });
+    let wrong = last_wrong(&ranks.add);
+    let calls = (200_000 / wrong.len()).max(1);
+    bench.without_judging(b.on_large(1.0), || {
+        let one = |_| assert_eq!(port::dynamic_leave_value(n, r, &wrong, best, pool, 0, r).number, 6);
+        seconds(|| (0..calls).for_each(one)).0 / calls as f64
+    });
 }
 
 fn blanks(bench: &mut Bench, b: &Board, rng: &mut Rng) {
@@ -378,6 +443,7 @@ fn blanks(bench: &mut Bench, b: &Board, rng: &mut Rng) {
     let (mut letters, mut drops) = (vec![0u8; r], vec![0i32; r]);
     bench.race_short(
         &format!("blank variants of 2 to {r} tiles, 2 blanks"),
+        b.on_large(1.0),
         &words,
         |w| {
             placed[..w.len()].copy_from_slice(w);
@@ -451,7 +517,8 @@ is by how much the original's slowest run passes its fastest. What the port give
 
     rt staticlib census && cd docs && cargo run --manifest-path ../compare/Cargo.toml -j1 --release --offline --bin bench -- RUNS > SPEED.md
 
-- The port tests its sizes, lengths and tables at each call, which the original does not.
+- The port tests its sizes, lengths and tables at each call, which the original does not. `Judging left out`: the port's time less that of the same call
+  over tables of which the last entry is wrong, which are judged to the end and refused.
 - The fused sums have the letter table at hand. Their four settings are those that run different code; sums are made +0.0 before a call, which is not timed.
 - The original allocates its tables of ranks, and makes each on a thread of its own. `Made anew`: the port's side allocates too, so both pay for
   the first touch of the memory; `into a slice at hand` is the port's call alone, against the same time of the original.
