@@ -1,8 +1,8 @@
 -- `sums::spread::add_one` meets its contract. Assumes nothing.
-use mathlib.Core.Path.{refl}
+use mathlib.Core.Path.{refl, sym}
 use borrow.Author.Needs.{needs}
+use lib.Seq.{set-out}
 use Rattle.sums.specs.Spread.{addOne}
-use Rattle.sums.proofs.Spreading.{past-end}
 use Rattle.sums.proofs.spread.add_one.Statement.{statement}
 use Rattle.sums.proofs.spread.add_one.Tie as tie
 
@@ -27,7 +27,7 @@ returns c = refl
 
 returns-2 : tie.Need-returns-2
 unfolding addOne
-returns-2 c = past-end _ _ _ (c .if1 .left)
+returns-2 c = sym (set-out _ _ _ (c .if1 .left))
 
 pub add-one-spec : {M : Type 1} → statement M
 add-one-spec =
