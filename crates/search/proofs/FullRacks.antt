@@ -1,20 +1,18 @@
 -- From the racks that are written to the answer of the table call. Assumes nothing.
-use mathlib.Core.Path.{_≡_, refl, sym, ap, _∙_}
+use mathlib.Core.Path.{_≡_, refl, sym, subst}
 use mathlib.Core.Bool.{true, false, _&&_}
 use mathlib.Core.List.{List}
-use Prim.Native.Nat.{ℕ, _+_, _≤_, _<_}
-use native.Mathlib.Omega.{arith}
+use Prim.Native.Nat.{ℕ, _+_}
 use borrow.Author.Tests.{eq-eqb}
 use lib.Dec.{eqb}
-use lib.IntN.{ℤ, pos}
-use lib.ListN.{length, getD}
+use lib.IntN.{ℤ}
+use lib.ListN.{length}
 use Rattle.lattice.specs.Binomial.{binomial}
-use Rattle.lattice.specs.Tally.{total, start, rankOf}
-use Rattle.lattice.specs.Lattice.{length-lattice}
-use Rattle.lattice.specs.Rank.{AtMost, rank-from, rank-below}
+use Rattle.lattice.specs.Tally.{start}
 use Rattle.lattice.specs.Answers.{served}
-use Rattle.search.specs.Split.{bestSplit, small, allOf}
-use Rattle.search.specs.Racks.{Filled, found-rack}
+use Rattle.lattice.proofs.Served.{facts}
+use Rattle.search.specs.Split.{small, allOf}
+use Rattle.search.specs.Racks.{Filled, filled-rack}
 use Rattle.search.specs.Refusals.{tableNumber}
 use Rattle.search.specs.Answers.{Tabled}
 
@@ -42,19 +40,14 @@ module _ (n r : ℕ) (sheet leave entry : List ℤ) where
         unfolding tableNumber
         table-0 = rw (e, eq-eqb _ _ a, eq-eqb _ _ b, eq-eqb _ _ d, p, q)
 
-        pub tabled-filled : {exit : List ℤ} → Filled sheet leave n r (start n r) (length entry) entry exit → Tabled n r sheet leave entry 0 exit
-        tabled-filled {exit} f =
+        pub tabled-filled : {m : ℕ} {exit : List ℤ} → m ≡ n → Filled sheet leave (λ i. true) m r (start m r) entry exit → Tabled n r sheet leave entry 0 exit
+        tabled-filled {exit = exit} q g =
+            let k = facts n r e in
+            let f = subst (λ (j : ℕ). Filled sheet leave (λ i. true) j r (start j r) entry exit) q g in
             record {
               answered = sym table-0;
               untouched = λ g. absurd (g refl);
               size = f .size;
-              full = λ z t l s. rack t l s;
-              below = λ z i h. f .left i .0 h;
+              full = λ z t l s. filled-rack (k .some-letter) (k .some-tile) f t (record { letters = l; tiles = s }) refl;
+              below = λ z i h. f .below i h;
             }
-          where
-            rack : (t : List ℕ) → length t ≡ n → total t ≡ r → getD exit (rankOf n t) (pos 0) ≡ bestSplit sheet leave n t
-            rack t l s =
-                let fits : AtMost n r t = record { letters = l; tiles = omega (arith, s) } in
-                let low : start n r ≤ rankOf n t = omega (arith, rank-from n t, ap (start n) s) in
-                let high : rankOf n t < length entry = omega (arith, rank-below n r t fits, length-lattice n r, d) in
-                f .written (rankOf n t) low high ∙ found-rack sheet leave n r t fits p q
