@@ -1,19 +1,17 @@
 -- The laws of the walk over the parts of a leave: what each call asks, what the turns of the loop over a letter's count add, and that
 -- letters which are not there change neither. Assumes nothing.
-use mathlib.Core.Path.{_≡_, refl, sym, ap, ap₂, _∙_, subst, transport}
+use mathlib.Core.Path.{_≡_, refl, sym, ap, _∙_, subst, transport}
 use mathlib.Core.Bool.{Bool, true, false, cond}
 use mathlib.Core.List.{List, [], _∷_, _++_}
 use Prim.Native.Nat.{ℕ, zero, suc, _+_, _-_, _≤_, _<_}
-use native.Mathlib.Nat.{add-zero, zero-add, add-suc, le-refl}
+use native.Mathlib.Nat.{add-zero, add-suc, le-refl}
 use native.Mathlib.Numerals.{add-one}
 use native.Mathlib.Omega.{arith}
 use lib.Dec.{ltb}
 use lib.Ieee.{Float, nan, binary64, add}
-use lib.IntN.{pos}
 use lib.ListN.{length, getD, set, take, drop, take-append-drop}
 use lib.Seq.{set-out}
 use Rattle.laws.specs.Lists.{upto, concatMap, upto-zero, upto-suc, map-append, concatMap-append, concatMap-one}
-use Rattle.whole.specs.Whole.{whole}
 use Rattle.lattice.specs.Binomial.{positive}
 use Rattle.lattice.specs.Tally.{total, start}
 use Rattle.lattice.specs.Tallies.{count}

@@ -5,7 +5,6 @@ use native.Mathlib.Omega.{arith}
 use lib.ListN.{length}
 use Rattle.sums.specs.Spread.{length-addEach}
 use Rattle.sums.proofs.Spreading.{last-tiles, ready-last, reach-le, last-done}
-use borrow.Author.Needs.{needs}
 use Rattle.sums.proofs.spread.spread_count.Statement.{statement}
 use Rattle.sums.proofs.spread.spread_count.Tie as tie
 
