@@ -1,14 +1,14 @@
--- A row of a table of ranks from the row before it: the letters whose tails stay are one more, and the others are walked down from there. Assumes nothing.
+-- A row of a table of ranks from the row before it, judged or written: the letters whose tails stay are one more, and the others are walked down from there. Assumes nothing.
 use mathlib.Core.Bool.{Bool, true, false}
 use mathlib.Core.Path.{_≡_, sym, ap, _∙_, subst}
 use mathlib.Core.List.{List}
 use Prim.Native.Nat.{ℕ, zero, suc, _+_, _-_, _*_, _≤_, _<_}
 use native.Mathlib.Decide.{decLt}
-use native.Mathlib.Nat.{add-zero, add-suc, add-mul, suc-mul, not-suc-le-zero}
+use native.Mathlib.Nat.{add-zero, add-suc, add-mul, mul-one, suc-mul, not-suc-le-zero}
 use native.Mathlib.Omega.{arith}
 use lib.ListN.{length, getD, take, drop, length-drop}
 use lib.Seq.{getD-drop, take-all}
-use Rattle.lattice.specs.AddRows.{choices, lowered, lowered-zero, lowered-suc, Row, RowRight, RowBefore, Above, OneMore, Decides, LastOf, Stepped}
+use Rattle.lattice.specs.AddRows.{lowered, lowered-zero, lowered-suc, Row, RowRight, RowBefore, RowPut, Lifted, Above, OneMore, Decides, LastOf, Stepped}
 use Rattle.lattice.specs.AddRow.{top}
 
 -- ---- the first letters
@@ -140,3 +140,45 @@ module _ (above : ℕ) (rem : List ℕ) (kept prior at step : ℕ) (table : List
         (subst (λ (f : ℕ). Decides b (RowRight (lowered above rem kept) (drop kept rem) f step table)) e
         (subst (λ (l : List ℕ). Decides b (RowRight (lowered above rem kept) l from step table)) (rest-of kept rem)
         (subst (λ (x : ℕ). Decides b (RowRight x rest from step table)) (stands some more) judged)))
+
+-- ---- the same, written
+
+-- the first letters, and then the others after them
+row-put : (above : ℕ) (rem : List ℕ) (at d : ℕ) (add add₁ add₂ : List ℕ) → length add₁ ≡ length add → ((p : ℕ) → p < at → getD add₁ p 0 ≡ getD add p 0)
+    → ((k : ℕ) → k < d → getD add₁ (at + k) 0 ≡ lowered above rem (suc k)) → RowPut (lowered above rem d) (drop d rem) (at + d) add₁ add₂ → RowPut above rem at add add₂
+row-put above rem at d add add₁ add₂ size before first put =
+    record { size = put .size ∙ size; before = λ p h. put .before p (omega arith) ∙ before p h; row = λ k h. go k h (decLt k d) }
+  where
+    go : (k : ℕ) → k < length rem → Dec (k < d) → getD add₂ (at + k) 0 ≡ lowered above rem (suc k)
+    go k h (yes s) = put .before (at + k) (omega arith) ∙ first k s
+    go k h (no s) =
+        let r = put .row (k - d) (rw length-drop (omega arith)) in
+        let y : at + d + (k - d) ≡ at + k = omega arith in
+        let z : d + (k - d) ≡ k = omega arith in
+        rw z at (rw (y, lowered-drop above rem d (suc (k - d)), add-suc d (k - d)) at r)
+
+module _ (above : ℕ) (rem : List ℕ) (kept prior : ℕ) (add : List ℕ) (row : Row above rem) (before : RowBefore above rem kept prior 1 add) where
+  less : (k : ℕ) → k < kept → getD add (prior + k) 0 + 1 ≡ lowered above rem (suc k)
+  less k h = rw mul-one at (before .less k h)
+
+  pub lift-room : (k : ℕ) → k < kept → getD add (prior + k) 0 < 4294967295
+  lift-room k h = let few = before .few in omega (arith, less k h, row .fits k (omega arith))
+
+  module _ (at : ℕ) (add₁ : List ℕ) (some : 0 < kept) (lift : Lifted kept prior at add add₁) where
+    first : (k : ℕ) → k < kept → getD add₁ (at + k) 0 ≡ lowered above rem (suc k)
+    first k h = lift .row k h ∙ less k h
+
+    stands-at : getD add₁ (at + kept - 1) 0 ≡ lowered above rem kept
+    stands-at =
+        let e : at + (kept - 1) ≡ at + kept - 1 = omega arith in
+        let d : suc (kept - 1) ≡ kept = omega arith in
+        ap (λ (p : ℕ). getD add₁ p 0) (sym e) ∙ first (kept - 1) (omega arith) ∙ ap (lowered above rem) d
+
+    pub put-rest : Row (getD add₁ (at + kept - 1) 0) (take (length rem - kept) (drop kept rem))
+    put-rest = subst (λ (l : List ℕ). Row (getD add₁ (at + kept - 1) 0) l) (sym (rest-of kept rem)) (subst (λ (x : ℕ). Row x (drop kept rem)) (sym stands-at) (row-drop above rem kept row))
+
+    pub put-whole : (add₂ : List ℕ) → RowPut (getD add₁ (at + kept - 1) 0) (take (length rem - kept) (drop kept rem)) (at + kept) add₁ add₂ → RowPut above rem at add add₂
+    put-whole add₂ put =
+        row-put above rem at kept add add₁ add₂ (lift .size) (lift .before) first
+        (subst (λ (l : List ℕ). RowPut (lowered above rem kept) l (at + kept) add₁ add₂) (rest-of kept rem)
+        (subst (λ (x : ℕ). RowPut x (take (length rem - kept) (drop kept rem)) (at + kept) add₁ add₂) stands-at put))

@@ -1,6 +1,6 @@
 -- `lattice::add::is_turned` meets its contract. The invariant: the rows below idx are the same. The measure is what is left of the rows. Assumes nothing.
 use mathlib.Core.Bool.{true≢false, false≢true}
-use mathlib.Core.Path.{_≡_, refl, sym, _∙_}
+use mathlib.Core.Path.{_≡_, sym, _∙_}
 use Prim.Native.Nat.{_-_, _*_, _≤_}
 use native.Mathlib.Nat.{mul-comm}
 use native.Mathlib.Omega.{arith}

@@ -1,7 +1,6 @@
 -- `lattice::add::row_follows` meets its contract. The invariant: `right` tells whether the entries of the letters below k are one more. The measure is what is left of the letters. Assumes nothing.
 use mathlib.Core.Logic.{inl, inr, ⊎-elim}
-use mathlib.Core.Path.{_≡_, refl}
-use Prim.Native.Nat.{ℕ, _+_, _-_, _*_, _≤_, _<_}
+use Prim.Native.Nat.{ℕ, _-_, _*_, _≤_, _<_}
 use native.Mathlib.Omega.{arith}
 use borrow.Author.Needs.{needs}
 use Rattle.lattice.specs.AddRows.{Above, OneMore, Decides}

@@ -1,6 +1,6 @@
 -- `lattice::add::row_is_same` meets its contract. The invariant: `same` tells whether the row is the same for the letters below t. The measure is what is left of the letters. Assumes nothing.
 use mathlib.Core.Logic.{inl, inr, ⊎-elim}
-use mathlib.Core.Path.{_≡_, refl, sym, _∙_}
+use mathlib.Core.Path.{_≡_, refl}
 use Prim.Native.Nat.{ℕ, _+_, _-_, _*_, _≤_, _<_}
 use native.Mathlib.Omega.{arith}
 use borrow.Author.Needs.{needs}
