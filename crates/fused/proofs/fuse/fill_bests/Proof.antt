@@ -53,7 +53,7 @@ returns-3 : tie.Need-returns-3
 returns-3 c =
     let p = c .before .before .before .before .before .before .before .before .before .before .before .before .before .before .before .pre in
     let v = c .before .before .before .best-racks .ensures in
-    (bests-split (p .4) (sym (c .before .before .before .before .before .before .before .before .before .sheet-alone .ensures) ∙ c .before .before .before .before .before .before .before .before .if1 .left) (sym (c .before .before .before .before .before .before .before .in-force .ensures) ∙ c .before .before .before .before .before .before .if2 .left) (racks-after (p .4) (p .5) (p .2) (p .1) (p .3) (v .0)), v .1 ∙ p .2)
+    (bests-split (p .4) (sym (c .before .before .before .before .before .before .before .before .before .sheet-alone .ensures) ∙ c .before .before .before .before .before .before .before .before .if1 .left) (sym (c .before .before .before .before .before .before .before .in-force .ensures) ∙ c .before .before .before .before .before .before .if2 .left) (racks-after (p .4) (p .5) (p .2) (p .1) (v .0)), v .1 ∙ p .2)
 
 pub fill-bests-spec : {M : Type 1} → statement M
 fill-bests-spec =
