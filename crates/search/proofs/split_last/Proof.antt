@@ -7,18 +7,18 @@ use mir.Syntax.{w32}
 use mir.Val.{toZ}
 use mir.ValLaws.{toZ-ofZ}
 use Rattle.laws.specs.Greatest.{Greatest}
-use Rattle.search.specs.Counts.{atMost}
+use Rattle.search.specs.Counts.{atMost, step-fits}
 use Rattle.search.specs.Walk.{Turns, turns-none, turns-more, room-played, room-kept, ready-next, turn-next, walk-done}
 use Rattle.search.specs.Runs.{end-ready, end-one}
 use Rattle.search.proofs.split_last.Statement.{statement}
 use Rattle.search.proofs.split_last.Tie as tie
 
 abbrev Inv-loop : tie.InvT-loop
-Inv-loop table sheet leave tally k sp wp sk wk best j m count most₀ cp₀ most cp =
+Inv-loop starts sheet leave tally k sp wp sk wk best j m count most₀ cp₀ most cp =
     (cp ≤ count + 1) × Greatest (toZ w32 best) (Turns sheet leave (length tally) (take j tally) count m sp wp sk wk cp) (toZ w32 most)
 
 abbrev μ-loop : tie.MeasureT-loop
-μ-loop table sheet leave tally k sp wp sk wk best j m count most₀ cp₀ most cp = count + 1 - cp
+μ-loop starts sheet leave tally k sp wp sk wk best j m count most₀ cp₀ most cp = count + 1 - cp
 
 sub-j : tie.Need-sub-j Inv-loop μ-loop
 sub-j c =
@@ -48,15 +48,15 @@ kept : (c : tie.In-loop Inv-loop μ-loop)
     → (c .before .before .before .before .before .args .sk + (c .before .before .wide .result - c .before .loop .cp) ≤ 15) × (atMost (length (c .before .before .before .before .before .args .tally .now) - c .before .before .before .before .before .args .k) (c .before .before .before .before .before .args .sk + (c .before .before .wide .result - c .before .loop .cp)) ≤ length (c .before .before .before .before .before .args .leave .now))
 kept c = room-kept (c .before .before .before .before .before .pre .1) (c .before .before .before .before .before .pre .2) (c .before .before .wide .ensures) (c .loop-test .taken)
 
-added-requires : tie.Need-added-requires Inv-loop μ-loop
-added-requires c κs =
+past-requires : tie.Need-past-requires Inv-loop μ-loop
+past-requires c κs =
     let s = c .before .before .before .before .before in
-    (s .pre .0, omega (arith, s .pre .1 .few), played c .0, s .pre .1 .played, omega (arith, played c .1, s .good))
+    (omega (arith, s .pre .1 .few), played c .0, step-fits _ _ _ (s .pre .1 .played) (omega (arith, played c .1, s .good)))
 
-added-requires-2 : tie.Need-added-requires-2 Inv-loop μ-loop
-added-requires-2 c κs =
+past-requires-2 : tie.Need-past-requires-2 Inv-loop μ-loop
+past-requires-2 c κs =
     let s = c .before .before .before .before .before .before in
-    (s .pre .0, omega (arith, s .pre .1 .few), kept (c .before) .0, s .pre .1 .kept, omega (arith, kept (c .before) .1, s .good))
+    (omega (arith, s .pre .1 .few), kept (c .before) .0, step-fits _ _ _ (s .pre .1 .kept) (omega (arith, kept (c .before) .1, s .good)))
 
 add-better-worth : tie.Need-add-better-worth Inv-loop μ-loop
 add-better-worth c = omega (arith, played (c .before .before) .0)
@@ -67,7 +67,7 @@ add-better-worth-2 c = omega (arith, kept (c .before .before) .0)
 better-worth-requires : tie.Need-better-worth-requires Inv-loop μ-loop
 better-worth-requires c κs =
     let s = c .before .before .before .before .before .before .before in
-    let next = ready-next (s .pre .1) (s .pre .2) (c .before .before .before .before .wide .ensures) (c .before .before .loop-test .taken) (c .before .added .ensures) (c .added2 .ensures) in
+    let next = ready-next (s .pre .1) (s .pre .2) (c .before .before .before .before .wide .ensures) (c .before .before .loop-test .taken) (c .before .past .ensures) (c .past2 .ensures) in
     (s .pre .0, end-ready _ _ _ _ _ _ _ (next .letters) (s .pre .3) next)
 
 add-cp : tie.Need-add-cp Inv-loop μ-loop
@@ -83,10 +83,10 @@ turned c =
     let s = c .before .before .before .before .before .before .before .before in
     let counted = c .before .before .before .before .before .wide .ensures in
     let below = c .before .before .before .loop-test .taken in
-    let next = ready-next (s .pre .1) (s .pre .2) counted below (c .before .before .added .ensures) (c .before .added2 .ensures) in
+    let next = ready-next (s .pre .1) (s .pre .2) counted below (c .before .before .past .ensures) (c .before .past2 .ensures) in
     turns-more _ _ _ _ _ _ _ _ _ _ _
     (rw (toZ-ofZ w32 (s .args .best) (s .fits .best)) at (c .before .before .before .before .loop .inv .1))
-    (turn-next (s .pre .1) (s .pre .2) counted below (c .before .before .added .ensures) (c .before .added2 .ensures) (end-one _ _ _ _ _ _ _ (next .letters) (s .pre .3) (c .better-worth .ensures)))
+    (turn-next (s .pre .1) (s .pre .2) counted below (c .before .before .past .ensures) (c .before .past2 .ensures) (end-one _ _ _ _ _ _ _ (next .letters) (s .pre .3) (c .better-worth .ensures)))
 
 loop-again : tie.Need-loop-again Inv-loop μ-loop
 loop-again c =
@@ -118,8 +118,8 @@ split-last-spec =
     shared-slice-read-wide
     wide-requires
     loop-holds
-    added-requires
-    added-requires-2
+    past-requires
+    past-requires-2
     add-better-worth
     add-better-worth-2
     better-worth-requires

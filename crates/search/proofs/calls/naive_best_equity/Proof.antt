@@ -36,19 +36,16 @@ accepted c =
     let a = c .before .before .before .before .args in
     naive-sized (a .lat .n) (a .lat .r) (length (a .sheet .now)) (length (a .leave .now)) (a .tally .now) (length (a .kept .now)) (sizes c)
 
-binomials-requires : tie.Need-binomials-requires
-binomials-requires c κs = search needs
-
 best-first-requires : tie.Need-best-first-requires
 best-first-requires c κs =
-    let a = c .before .before .before .before .before .before .args in
-    (c .before .binomials .ensures, sized-held (a .sheet .now) (a .leave .now) (a .tally .now) (accepted (c .before .before) .0))
+    let a = c .before .before .before .before .args in
+    sized-held (a .sheet .now) (a .leave .now) (a .tally .now) (accepted c .0)
 
 cast-write-kept : tie.Need-cast-write-kept
 cast-write-kept c = search needs
 
 write-kept-requires : tie.Need-write-kept-requires
-write-kept-requires c κs = accepted (c .before .before .before .before .before .before .before) .1 ∙ sym (accepted (c .before .before .before .before .before .before .before) .0 .letters)
+write-kept-requires c κs = accepted (c .before .before .before .before .before) .1 ∙ sym (accepted (c .before .before .before .before .before) .0 .letters)
 
 -- the value that is found, as it is read
 same : (c : tie.After-best-first) → toZ w32 (ofZ w32 (c .best-first .result .value)) ≡ c .best-first .result .value
@@ -60,19 +57,19 @@ below c = subst (λ (x : ℤ). x <ℤ pos 2147483647) (same (c .before .before))
 
 above-leave-requires : tie.Need-above-leave-requires
 above-leave-requires c κs =
-    let a = c .before .before .before .before .before .before .before .before .before .before .before .before .before .before .before .args in
-    rest-ready (a .lat .n) (a .lat .r) (a .sheet .now) (a .leave .now) (a .tally .now) (a .kept .now) (sizes (c .before .before .before .before .before .before .before .before .before .before .before)) (c .before .before .before .before .before .before .before .before .best-first .ensures) (below (c .before .before .before .before .before .before)) (c .before .before .before .write-kept .ensures)
+    let a = c .before .before .before .before .before .before .before .before .before .before .before .before .before .args in
+    rest-ready (a .lat .n) (a .lat .r) (a .sheet .now) (a .leave .now) (a .tally .now) (a .kept .now) (sizes (c .before .before .before .before .before .before .before .before .before)) (c .before .before .before .before .before .before .before .before .best-first .ensures) (below (c .before .before .before .before .before .before)) (c .before .before .before .write-kept .ensures)
 
 same-length : tie.Need-same-length
 same-length c = search needs
 
 -- the answer, by whether the best is above what is kept
 moved : (c : tie.After-above-leave) {b : Move} → b ≡ cond (c .above-leave .result) (Word (c .before .before .before .before .before .before .before .before .before .best-first .result .value)) (Exchange (c .before .before .before .before .before .before .before .before .before .best-first .result .value))
-    → Played (c .before .before .before .before .before .before .before .before .before .before .before .before .before .before .before .before .args .lat .n) (c .before .before .before .before .before .before .before .before .before .before .before .before .before .before .before .before .args .lat .r) (c .before .before .before .before .before .before .before .before .before .before .before .before .before .before .before .before .args .sheet .now) (c .before .before .before .before .before .before .before .before .before .before .before .before .before .before .before .before .args .leave .now) (c .before .before .before .before .before .before .before .before .before .before .before .before .before .before .before .before .args .tally .now) (c .before .before .before .before .before .before .before .before .before .before .before .before .before .before .before .before .args .kept .now) b (c .before .before .before .before .write-kept .last .1 .1 .0)
+    → Played (c .before .before .before .before .before .before .before .before .before .before .before .before .before .before .args .lat .n) (c .before .before .before .before .before .before .before .before .before .before .before .before .before .before .args .lat .r) (c .before .before .before .before .before .before .before .before .before .before .before .before .before .before .args .sheet .now) (c .before .before .before .before .before .before .before .before .before .before .before .before .before .before .args .leave .now) (c .before .before .before .before .before .before .before .before .before .before .before .before .before .before .args .tally .now) (c .before .before .before .before .before .before .before .before .before .before .before .before .before .before .args .kept .now) b (c .before .before .before .before .write-kept .last .1 .1 .0)
 moved c e =
-    let a = c .before .before .before .before .before .before .before .before .before .before .before .before .before .before .before .before .args in
+    let a = c .before .before .before .before .before .before .before .before .before .before .before .before .before .before .args in
     let v = c .before .before .before .before .before .before .before .before .before .best-first .result .value in
-    naive-moved (a .lat .n) (a .lat .r) (a .sheet .now) (a .leave .now) (a .tally .now) (a .kept .now) (sizes (c .before .before .before .before .before .before .before .before .before .before .before .before)) (c .before .before .before .before .before .before .before .before .before .best-first .ensures) (below (c .before .before .before .before .before .before .before)) (c .before .before .before .before .write-kept .ensures)
+    naive-moved (a .lat .n) (a .lat .r) (a .sheet .now) (a .leave .now) (a .tally .now) (a .kept .now) (sizes (c .before .before .before .before .before .before .before .before .before .before)) (c .before .before .before .before .before .before .before .before .before .best-first .ensures) (below (c .before .before .before .before .before .before .before)) (c .before .before .before .before .write-kept .ensures)
     (e ∙ ap (λ (x : Bool). cond x (Word v) (Exchange v)) (rw (same (c .before .before .before .before .before .before .before .before .before)) at (c .above-leave .ensures)))
 
 returns-2 : tie.Need-returns-2
@@ -86,9 +83,9 @@ returns-3 c = moved (c .before) (rw (c .if3 .left) (ap Exchange (same (c .before
 
 returns-4 : tie.Need-returns-4
 returns-4 c =
-    let a = c .before .before .before .before .before .before .before .before .before .args in
+    let a = c .before .before .before .before .before .before .before .args in
     let h : pos 2147483647 ≤ℤ c .before .before .best-first .result .value = subst (λ (x : ℤ). pos 2147483647 ≤ℤ x) (same (c .before .before)) (ltZ-false (c .if2 .left)) in
-    naive-beyond (a .lat .n) (a .lat .r) (a .sheet .now) (a .leave .now) (a .tally .now) (a .kept .now) (sizes (c .before .before .before .before .before)) (c .before .before .best-first .ensures) h
+    naive-beyond (a .lat .n) (a .lat .r) (a .sheet .now) (a .leave .now) (a .tally .now) (a .kept .now) (sizes (c .before .before .before)) (c .before .before .best-first .ensures) h
 
 pub naive-best-equity-spec : {M : Type 1} → statement M
 naive-best-equity-spec =
@@ -96,7 +93,6 @@ naive-best-equity-spec =
     (tie.spec
     naive-sizes-requires
     returns
-    binomials-requires
     best-first-requires
     cast-write-kept
     write-kept-requires
