@@ -1,6 +1,6 @@
 -- The walk over the draws, a letter at a time: the racks that it meets, and what it makes of them. Assumes nothing.
-use mathlib.Core.Path.{_≡_, refl, sym, ap, _∙_}
-use mathlib.Core.List.{List, [], _∷_, _++_}
+use mathlib.Core.Path.{_≡_, refl, sym, ap, ap₂, _∙_}
+use mathlib.Core.List.{List, [], _∷_, _++_, append-nil}
 use Prim.Native.Nat.{ℕ, zero, suc, _-_, _*_, _<_, _^_, min, max}
 use native.Mathlib.Nat.{mul-one}
 use native.Mathlib.Omega.{arith}
@@ -95,6 +95,24 @@ module _ {W : Type 0} (by : W → ℕ → ℕ → W) (n : ℕ) (table : List ℕ
 pub factor-none : (w : Float) (u : ℕ) → factor w u 0 ≡ w
 unfolding factor
 factor-none w u = refl
+
+-- with one tile to come: the rack with a tile of letter t, where there are u of it
+unfoldable pub metTile : ℕ → List ℕ → ℕ → ℕ → Float → ℕ → List (Float × ℕ)
+metTile n table t zero w i = []
+metTile n table t (suc u) w i = (factor w (suc u) 1, up n table t i) ∷ []
+
+-- the letters after t come first
+pub met-tile : (n : ℕ) (table : List ℕ) (t u : ℕ) (us : List ℕ) (w : Float) (i : ℕ) → met factor n table t (u ∷ us) 1 w i ≡ met factor n table (suc t) us 1 w i ++ metTile n table t u w i
+unfolding metTile climb
+met-tile n table t zero us w i =
+    let e : suc (min 0 1) ≡ 1 = omega arith in
+    met-cons factor n table t 0 us 1 w i ∙ ap (metTo factor n table t 0 us 1 w i) e ∙ metTo-suc factor n table t 0 us 1 w i 0
+    ∙ rw (metTo-zero factor n table t 0 us 1 w i, factor-none w 0) (sym (append-nil (met factor n table (suc t) us 1 w i)))
+met-tile n table t (suc u) us w i =
+    let e : suc (min (suc u) 1) ≡ 2 = omega arith in
+    let first : metTo factor n table t (suc u) us 1 w i 1 ≡ met factor n table (suc t) us 1 w i = metTo-suc factor n table t (suc u) us 1 w i 0 ∙ rw (metTo-zero factor n table t (suc u) us 1 w i, factor-none w (suc u)) in
+    met-cons factor n table t (suc u) us 1 w i ∙ ap (metTo factor n table t (suc u) us 1 w i) e ∙ metTo-suc factor n table t (suc u) us 1 w i 1
+    ∙ ap₂ _++_ first (met-none factor n table factor-none (suc t) us (factor w (suc u) 1) (up n table t i))
 
 pub product-none : (w u : ℕ) → product w u 0 ≡ w
 product-none w u = rw binomial-zero (mul-one w)

@@ -1,12 +1,13 @@
 -- What the walk over the draws asks, and that each letter and each tile hands it on. Assumes nothing.
-use mathlib.Core.Path.{_≡_, sym, ap, _∙_, subst}
+use mathlib.Core.Path.{_≡_, refl, sym, ap, _∙_, subst}
 use mathlib.Core.List.{List, [], _∷_}
 use Prim.Native.Nat.{ℕ, zero, suc, _+_, _-_, _*_, _≤_, _<_, min}
 use native.Mathlib.Decide.{decLt}
 use native.Mathlib.Nat.{mul-le-mul-right, suc-mul}
 use native.Mathlib.Omega.{arith}
-use lib.IntN.{ℤ}
-use lib.Ieee.{Float, binary64, mul}
+use lib.IntN.{ℤ, pos}
+use lib.Ieee.{Float, binary64, mul, div}
+use Rattle.whole.specs.Whole.{whole}
 use lib.ListN.{length, getD, drop}
 use lib.Seq.{drop-cons, drop-length}
 use Rattle.lattice.specs.Tally.{total, start, rankOf, addTile, total-nil, total-cons}
@@ -14,7 +15,7 @@ use Rattle.lattice.specs.Tables.{up}
 use Rattle.lattice.specs.Rank.{rank-to, total-addTile, length-addTile}
 use Rattle.lattice.specs.Leaves.{AddTable, leave-rank}
 use Rattle.draws.specs.declared.walk.Totals.{Totals}
-use Rattle.draws.specs.Walk.{running, factor, factor-none, climb, met, metTo, met-cons, met-none, met-lacking, metTo-zero, metTo-suc, Gathered, gathered-none, gathered-append}
+use Rattle.draws.specs.Walk.{running, factor, factor-none, climb, met, metTo, met-cons, met-none, met-lacking, met-short, metTo-zero, metTo-suc, metTile, met-tile, Gathered, gathered-none, gathered-append}
 
 -- i is the rank of a multiset that is rem tiles short of a full rack
 pub record Short (n r rem i : ℕ) : Type 0 where
@@ -123,3 +124,37 @@ module _ {r : ℕ} {table : List ℕ} {full : List ℤ} {pool : List ℕ} {t rem
       pub turns-done : {j : ℕ} {a b : Totals} → j ≡ min u rem → Gathered full (metTo factor n table t u (drop (suc t) pool) rem w i (suc j)) a b
           → Gathered full (met factor n table t (drop t pool) rem w i) a b
       turns-done e g = rw (letter-first, met-cons factor n table t u (drop (suc t) pool) rem w i) (rw e at g)
+
+-- ---- one tile to come
+
+-- at any letter
+pub walk-at : {r : ℕ} {table : List ℕ} {full : List ℤ} {pool : List ℕ} {t left i : ℕ} (k : ℕ) → k ≤ length pool → Walking r table full pool t 1 left i → Walking r table full pool k 1 (total (drop k pool)) i
+walk-at k h walk = record { right = walk .right; bests = walk .bests; letters = h; tiles = refl; short = walk .short }
+
+module _ {r : ℕ} {table : List ℕ} {full : List ℤ} {pool : List ℕ} {u left i : ℕ} (walk : Walking r table full pool u 1 left i) (there : u < length pool) where
+  pub tile-place : i * length pool + u < length table
+  tile-place = short-place (walk .right) there (walk .short) (omega arith)
+
+  pub tile-best : up (length pool) table u i < length full
+  unfolding climb
+  tile-best = omega (arith, short-none (short-climb (walk .right) there 1 (omega arith) (walk .short)) (omega arith), walk .bests)
+
+module _ {full : List ℤ} (n : ℕ) (table : List ℕ) (t : ℕ) (w : Float) (i : ℕ) where
+  pub tile-none : {u : ℕ} (a : Totals) → u ≡ 0 → Gathered full (metTile n table t u w i) a a
+  unfolding metTile
+  tile-none a e = rw e (gathered-none a)
+
+  pub tile-some : (u : ℕ) {j : ℕ} {x b : Float} {a c : Totals} → (u ≡ 0 → ⊥) → x ≡ whole (pos 1) → b ≡ div binary64 (mul binary64 x (whole (pos (u - 0)))) (whole (pos (0 + 1))) → j ≡ up n table t i
+      → Gathered full ((mul binary64 w b, j) ∷ []) a c → Gathered full (metTile n table t u w i) a c
+  unfolding metTile factor running
+  tile-some zero some e q p g = absurd (some refl)
+  tile-some (suc u) some e q p g = rw (p, q, e) at g
+
+-- a letter more, before those that were taken
+pub tile-next : {full : List ℤ} (table pool : List ℕ) (w : Float) (i : ℕ) {k u : ℕ} {a b c : Totals} → u ≡ suc k → k < length pool → Gathered full (met factor (length pool) table u (drop u pool) 1 w i) a b
+    → Gathered full (metTile (length pool) table k (getD pool k 0) w i) b c → Gathered full (met factor (length pool) table k (drop k pool) 1 w i) a c
+tile-next table pool w i {k} e h p q =
+    rw (drop-cons pool k 0 h, met-tile (length pool) table k (getD pool k 0) (drop (suc k) pool) w i) (gathered-append (rw e at p) q)
+
+pub tiles-none : {full : List ℤ} (n : ℕ) (table pool : List ℕ) (w : Float) (i : ℕ) (a : Totals) → Gathered full (met factor n table (length pool) (drop (length pool) pool) 1 w i) a a
+tiles-none n table pool w i a = rw (drop-length pool, met-short factor n table (length pool) 0 w i) (gathered-none a)

@@ -4,10 +4,10 @@ ghost use mathlib.Core.List.{[], _∷_};
 ghost use Prim.Native.Nat.{ℕ, _+_, _-_, _*_, _≤_, _<_, min};
 ghost use lib.Ieee.{binary64, mul, div};
 ghost use lib.IntN.{pos};
-ghost use lib.ListN.{length, drop};
+ghost use lib.ListN.{length, getD, drop};
 ghost use Rattle.whole.specs.Whole.{whole};
 ghost use Rattle.lattice.specs.Tables.{up};
-ghost use Rattle.draws.specs.Walk.{factor, met, totals, Gathered};
+ghost use Rattle.draws.specs.Walk.{factor, met, metTile, totals, Gathered};
 ghost use Rattle.draws.specs.Walking.{Walking};
 use sums::weight::larger;
 
@@ -60,6 +60,55 @@ fn raised(add: &[u32], n: usize, idx: usize, t: usize) -> usize
     add[at] as usize
 }
 
+// One rack more where the pool has letter u: the leave at ridx with one tile more, met in w ways for each of the letter's tiles.
+fn gain_tile(
+    add: &[u32],
+    full_v: &[i32],
+    pool: &[u8],
+    u: usize,
+    w: f64,
+    ridx: usize,
+    num: f64,
+    den: f64,
+    most: u64,
+) -> Totals
+    requires { ⌜ ((r : ℕ) × (left : ℕ) × Walking r (now add) (now «full_v») (now pool) u 1 left ridx) × (u < length (now pool)) ⌝ }
+    ensures { λ r. ⌜ Gathered (now («full_v» .entry)) (metTile (length (now (pool .entry))) (now (add .entry)) u (getD (now (pool .entry)) u 0) w ridx) (totals num den most) r ⌝ }
+{
+    let count = wide(pool[u]);
+    if count == 0 {
+        return Totals { num, den, most };
+    }
+    let idx = raised(add, pool.len(), ridx, u);
+    let ways = w * next_binomial(1.0, count, 0);
+    gain(full_v, ways, idx, num, den, most)
+}
+
+// As aggregate with one tile to come: a rack for each letter from t on that the pool has, from the last letter back.
+fn aggregate_last(
+    add: &[u32],
+    full_v: &[i32],
+    pool: &[u8],
+    t: usize,
+    w: f64,
+    ridx: usize,
+    num: f64,
+    den: f64,
+    most: u64,
+) -> Totals
+    requires { ⌜ ((r : ℕ) × (left : ℕ) × Walking r (now add) (now «full_v») (now pool) t 1 left ridx) ⌝ }
+    ensures { λ r. ⌜ Gathered (now («full_v» .entry)) (met factor (length (now (pool .entry))) (now (add .entry)) t (drop t (now (pool .entry))) 1 w ridx)
+        (totals num den most) r ⌝ }
+{
+    let mut sums = Totals { num, den, most };
+    let mut u = pool.len();
+    while t < u {
+        u -= 1;
+        sums = gain_tile(add, full_v, pool, u, w, ridx, sums.num, sums.den, sums.most);
+    }
+    sums
+}
+
 // Adds up the racks with `remaining` tiles more of the letters from t on, of which the pool has `left`: w are the ways to draw the
 // tiles so far, and ridx is the rank of the leave with them.
 pub fn aggregate(
@@ -84,6 +133,9 @@ pub fn aggregate(
     }
     if left < remaining {
         return Totals { num, den, most };
+    }
+    if remaining == 1 {
+        return aggregate_last(add, full_v, pool, t, w, ridx, num, den, most);
     }
     let u = wide(pool[t]);
     let rest = left - u;
