@@ -530,12 +530,13 @@ fn thread() -> f64 {
     (0..12).map(|_| batch()).fold(f64::MAX, f64::min)
 }
 
-// A chart of the ratios, the best run of each call: a bar to the right of the line is a call that the port does faster. Each tenfold is 150 wide.
+// A chart of the ratios, by the least times of all runs: a bar to the right of the line is a call that the port does faster. Each tenfold is 150 wide.
 fn chart(title: &str, runs: &[Vec<Race>]) -> String {
     let (label, middle, line) = (170.0, 480.0, 20.0);
     let mut bars = String::new();
     for (k, race) in runs[0].iter().enumerate() {
-        let ratio = runs.iter().map(|r| r[k].original / r[k].port).fold(0.0, f64::max);
+        let least = |f: fn(&Race) -> f64| runs.iter().map(|r| f(&r[k])).fold(f64::MAX, f64::min);
+        let ratio = least(|r| r.original) / least(|r| r.port);
         let wide = (ratio.log10() * 150.0).clamp(-300.0, 320.0);
         let (from, y) = (middle + wide.min(0.0), 46.0 + line * k as f64);
         let colour = if ratio < 1.0 { "#c66" } else { "#6a6" };
