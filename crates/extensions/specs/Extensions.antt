@@ -101,7 +101,7 @@ stop-there (c ∷ cs) h = go (eqb (total cs) 0) (eqb→eq (total cs) 0) (λ e. r
     go false e f s ih low = elim (decLt 0 (total cs)) [ yes p ↦ shift (stopOf cs) (low (some cs p)) (ih p) | no p ↦ absurd (f (omega arith)) ]
 
 -- the letter before the end has tiles, unless it is the first
-stop-tile : (t : List ℕ) → 1 < stopOf t → getD t (stopOf t - 1) 0 ≡ 0 → ⊥
+pub stop-tile : (t : List ℕ) → 1 < stopOf t → getD t (stopOf t - 1) 0 ≡ 0 → ⊥
 stop-tile t h e = elim (decLt 0 (total t)) [ yes p ↦ (let q = stop-there t p in omega arith) | no p ↦ (let q = stop-first t (omega arith) in omega arith) ]
 
 -- the letters end where one that is there is followed by none

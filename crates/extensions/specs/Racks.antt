@@ -3,13 +3,13 @@ use mathlib.Core.Path.{_≡_, refl, sym, ap, ap₂, _∙_, subst}
 use mathlib.Core.Bool.{Bool, true, false, cond}
 use mathlib.Core.List.{List, [], _∷_, _++_, map, append-nil, List·Memᴰ, List·Memᴰ·head, List·Memᴰ·tail, List·Memᴰ·cases-cons, List·Memᴰ·not-nil}
 use mathlib.Core.Logic.{_⊎_, inl, inr, ⊎-elim}
-use Prim.Native.Nat.{ℕ, zero, suc, _+_, _-_, _≤_, _<_}
+use Prim.Native.Nat.{ℕ, zero, suc, _+_, _-_, _^_, _≤_, _<_}
 use native.Mathlib.Nat.{not-suc-le-zero}
 use native.Mathlib.Omega.{arith}
 use lib.Dec.{T, eqb, eqb→eq}
 use lib.ListN.{length, replicate}
 use Rattle.laws.specs.Lists.{upto, concatMap, upto-suc, of-upto, map-append, map-map, map-concatMap, concatMap-map, concatMap-append, concatMap-one, of-concatMap}
-use Rattle.lattice.specs.Tally.{total, tallies, rankOf, addTile, addTile-is, total-cons, total-nil}
+use Rattle.lattice.specs.Tally.{total, tallies, start, rankOf, addTile, addTile-is, total-cons, total-nil}
 use Rattle.lattice.specs.Tallies.{Fits, skip, bump, tallies-empty, tallies-zero, tallies-suc, tallies-too-many, tallies-fit, tallies-all}
 use Rattle.extensions.specs.Extensions.{stopOf, extension, extent, extensions, stop-cons, stop-first, stop-low}
 
@@ -20,6 +20,19 @@ pub record Leave (n r rank : ℕ) (t : List ℕ) (stop first : ℕ) : Type 0 whe
   pub ranked : rankOf n t ≡ rank
   pub stops : stop ≡ stopOf t
   pub starts : first ≡ rankOf n (extension t 0)
+
+-- what a step to the next leave asks of a tally
+pub record Walking (t : List ℕ) (stop first : ℕ) : Type 0 where
+  pub some : 0 < length t
+  pub letters : length t ≤ 64
+  pub tiles : total t < 255
+  pub inside : stop ≤ length t
+  pub room : first + 65 < 2 ^ 64
+
+-- a leave's next, with the racks that extend it: where t is a leave of one tile less than a rack, and not the last, u is the next
+pub record Onward (t : List ℕ) (stop first : ℕ) (u : List ℕ) (stop′ first′ : ℕ) : Type 0 where
+  pub letters : length u ≡ length t
+  pub next : (r rank : ℕ) → Leave (length t) r rank t stop first → suc rank < start (length t) r → Leave (length t) r (suc rank) u stop′ first′
 
 -- ---- lists
 

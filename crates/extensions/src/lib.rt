@@ -6,13 +6,18 @@ ghost use lib.ListN.{length};
 ghost use Rattle.lattice.specs.Answers.{served};
 ghost use Rattle.lattice.specs.Tally.{total, start, rankOf};
 ghost use Rattle.extensions.specs.Extensions.{stopOf, extension};
-ghost use Rattle.extensions.specs.Racks.{Leave};
+ghost use Rattle.extensions.specs.Racks.{Leave, Walking, Onward};
+ghost use Rattle.runs.specs.Runs.{present};
 use lattice::Ranked;
 use lattice::rank_within;
 use lattice::unrank_within;
+use runs::letters_of;
+use runs::next_run;
+use runs::next_tally;
 
-// Where a leave's letters end, and the rank of the first rack that extends it: that with one tile more of the last letter of all.
+// A leave's letters, where they end, and the rank of the first rack that extends it: that with one tile more of the last letter of all.
 pub struct Extended {
+    pub word: u64,
     pub stop: usize,
     pub first: usize,
 }
@@ -33,7 +38,7 @@ fn stop_of(tally: &[u8]) -> usize
 }
 
 // The rank of a tally that has one.
-fn rank_of(r: usize, tally: &[u8]) -> usize
+pub fn rank_of(r: usize, tally: &[u8]) -> usize
     requires { ⌜ (served (length (now tally)) r ≡ true) × (total (now tally) ≤ r) ⌝ }
     ensures { λ k. ⌜ k ≡ rankOf (length (now (tally .entry))) (now (tally .entry)) ⌝ }
 {
@@ -59,10 +64,28 @@ fn first_rank(r: usize, tally: &mut [u8]) -> usize
 // The leave of one tile less than a rack at a rank, unranked into a slice, and the racks that extend it.
 pub fn extend_at(r: usize, rank: usize, tally: &mut [u8]) -> Extended
     requires { ⌜ (served (length (now tally)) r ≡ true) × (start (length (now tally)) (r - 1) ≤ rank) × (rank < start (length (now tally)) r) ⌝ }
-    ensures { λ b. ⌜ Leave (length (now (tally .entry))) r rank (now (tally .exit)) (b .stop) (b .first) ⌝ }
+    ensures { λ b. ⌜ Leave (length (now (tally .entry))) r rank (now (tally .exit)) (b .stop) (b .first) × (b .word ≡ present (now (tally .exit))) ⌝ }
 {
     unrank_within(r, rank as u64, tally);
     let stop = stop_of(tally);
     let first = first_rank(r, tally);
-    Extended { stop, first }
+    let word = letters_of(tally);
+    Extended { word, stop, first }
+}
+
+// The leave that comes next, and the racks that extend it: they follow those of the leave before.
+pub fn next_leave(e: Extended, tally: &mut [u8]) -> Extended
+    requires { ⌜ Walking (now tally) (e .stop) (e .first) × (e .word ≡ present (now tally)) ⌝ }
+    ensures { λ b. ⌜ Onward (now (tally .entry)) (e .stop) (e .first) (now (tally .exit)) (b .stop) (b .first) × (b .word ≡ present (now (tally .exit))) ⌝ }
+{
+    let n = tally.len();
+    let before = e.stop;
+    let first = e.first + (n - before) + 1;
+    let word = next_tally(tally, e.word);
+    let run = next_run(tally, word, n);
+    Extended {
+        word,
+        stop: run.stop,
+        first,
+    }
 }
