@@ -4,11 +4,11 @@ use mathlib.Core.Path.{_≡_, sym, ap, _∙_, subst}
 use mathlib.Core.List.{List}
 use Prim.Native.Nat.{ℕ, zero, suc, _+_, _-_, _*_, _≤_, _<_}
 use native.Mathlib.Decide.{decLt}
-use native.Mathlib.Nat.{add-zero, add-suc, add-mul, mul-one, suc-mul, not-suc-le-zero}
+use native.Mathlib.Nat.{zero-add, add-zero, add-suc, le-refl}
 use native.Mathlib.Omega.{arith}
 use lib.ListN.{length, getD, take, drop, length-drop}
-use lib.Seq.{getD-drop, take-all}
-use Rattle.lattice.specs.AddRows.{lowered, lowered-zero, lowered-suc, Row, RowRight, RowBefore, RowPut, Lifted, Above, OneMore, Decides, LastOf, Stepped}
+use lib.Seq.{getD-take, getD-drop, length-take-le, take-all}
+use Rattle.lattice.specs.AddRows.{lowered, lowered-zero, lowered-suc, Row, Falling, RowRight, RowAt, RowBefore, RowPut, Lifted, OneMoreEach, Decides, LastOf, Stepped, RowSame}
 use Rattle.lattice.specs.AddRow.{top}
 
 -- ---- the first letters
@@ -22,17 +22,11 @@ lifted above rem rem′ l row e b kept (suc k) h =
     rw (lowered-suc (suc above) rem′ k, lowered-suc above rem k, e, kept k h, i) (omega arith)
 
 -- a right row, and the step from its tally: what is known of it in the next row's walk down
-pub row-before : (n i last last′ prior step : ℕ) (rem rem′ table : List ℕ) → Row (top n i (getD rem 0 0)) rem → LastOf rem last → Stepped last rem rem′ last′
-    → RowRight (top n i (getD rem 0 0)) rem prior step table → ((k : ℕ) → k < length rem → prior + k * step < length table)
-    → RowBefore (top n (suc i) (getD rem′ 0 0)) rem′ last prior step table
-row-before n i last last′ prior step rem rem′ table row last-of stepped right inside =
-    record {
-      few = omega (arith, last-of .inside, stepped .advanced .letters);
-      inside = λ k h. inside k (omega (arith, last-of .inside));
-      less = less;
-    }
+pub row-before : (n i last last′ prior : ℕ) (rem rem′ table : List ℕ) → Row (top n i (getD rem 0 0)) rem → LastOf rem last → Stepped last rem rem′ last′
+    → RowAt (top n i (getD rem 0 0)) rem prior table → RowBefore (top n (suc i) (getD rem′ 0 0)) rem′ last prior table
+row-before n i last last′ prior rem rem′ table row last-of stepped right = record { few = omega (arith, last-of .inside, stepped .advanced .letters); less = less }
   where
-    less : (k : ℕ) → k < last → getD table (prior + k * step) 0 + 1 ≡ lowered (top n (suc i) (getD rem′ 0 0)) rem′ (suc k)
+    less : (k : ℕ) → k < last → getD table (prior + k) 0 + 1 ≡ lowered (top n (suc i) (getD rem′ 0 0)) rem′ (suc k)
     less k h =
         let same : getD rem′ 0 0 ≡ getD rem 0 0 = stepped .kept 0 (omega arith) in
         let up : top n (suc i) (getD rem 0 0) ≡ suc (top n i (getD rem 0 0)) = omega arith in
@@ -45,13 +39,13 @@ row-before n i last last′ prior step rem rem′ table row last-of stepped righ
 -- ---- the other letters
 
 -- the walk down from letter d on
-pub lowered-drop : (above : ℕ) (rem : List ℕ) (d k : ℕ) → lowered (lowered above rem d) (drop d rem) k ≡ lowered above rem (d + k)
+lowered-drop : (above : ℕ) (rem : List ℕ) (d k : ℕ) → lowered (lowered above rem d) (drop d rem) k ≡ lowered above rem (d + k)
 lowered-drop above rem d zero = rw (lowered-zero, add-zero)
 lowered-drop above rem d (suc k) =
     let e : length (drop d rem) - 1 - k ≡ length rem - 1 - (d + k) = rw length-drop (omega arith) in
     rw (lowered-suc (lowered above rem d) (drop d rem) k, lowered-drop above rem d k, e, getD-drop d rem k 0, add-suc d k, lowered-suc above rem (d + k))
 
-pub row-drop : (above : ℕ) (rem : List ℕ) (d : ℕ) → Row above rem → Row (lowered above rem d) (drop d rem)
+row-drop : (above : ℕ) (rem : List ℕ) (d : ℕ) → Row above rem → Row (lowered above rem d) (drop d rem)
 row-drop above rem d row =
     record {
       letters = omega (arith, row .letters, length-drop d rem);
@@ -66,80 +60,80 @@ row-drop above rem d row =
     place : (k : ℕ) → length (drop d rem) - 1 - k ≡ length rem - 1 - (d + k)
     place k = rw length-drop (omega arith)
 
--- the first letters and the others are the row
-pub row-joined : (above : ℕ) (rem : List ℕ) (at step d : ℕ) (table : List ℕ) (b : Bool) → ((k : ℕ) → k < d → getD table (at + k * step) 0 ≡ lowered above rem (suc k))
-    → Decides b (RowRight (lowered above rem d) (drop d rem) (at + d * step) step table) → Decides b (RowRight above rem at step table)
-row-joined above rem at step d table b first rest = record { yes = λ e k h. go e k h (decLt k d); no = no-way }
-  where
-    place : (k : ℕ) → at + d * step + k * step ≡ at + (d + k) * step
-    place k = omega (arith, add-mul d k step)
+falling-drop : (rem : List ℕ) (d : ℕ) → Falling rem → Falling (drop d rem)
+falling-drop rem d falling zero h = le-refl _
+falling-drop rem d falling (suc l) h =
+    let e : d + suc l - 1 ≡ d + (suc l - 1) = omega arith in
+    rw (getD-drop d rem (suc l) 0, getD-drop d rem (suc l - 1) 0) (rw e at (falling (d + suc l) (omega (arith, length-drop d rem))))
 
-    go : b ≡ true → (k : ℕ) → k < length rem → Dec (k < d) → getD table (at + k * step) 0 ≡ lowered above rem (suc k)
+-- the first letters and the others are the row
+row-joined : (above : ℕ) (rem : List ℕ) (d : ℕ) (row : List ℕ) (b : Bool) → ((k : ℕ) → k < d → getD row k 0 ≡ lowered above rem (suc k))
+    → Decides b (RowRight (lowered above rem d) (drop d rem) (drop d row)) → Decides b (RowRight above rem row)
+row-joined above rem d row b first rest = record { yes = λ e k h. go e k h (decLt k d); no = no-way }
+  where
+    go : b ≡ true → (k : ℕ) → k < length rem → Dec (k < d) → getD row k 0 ≡ lowered above rem (suc k)
     go e k h (yes s) = first k s
     go e k h (no s) =
         let r = rest .yes e (k - d) (rw length-drop (omega arith)) in
         let z : d + (k - d) ≡ k = omega arith in
-        rw z at (rw (place (k - d), lowered-drop above rem d (suc (k - d)), add-suc d (k - d)) at r)
+        rw z at (rw (getD-drop d row (k - d) 0, lowered-drop above rem d (suc (k - d)), add-suc d (k - d)) at r)
 
-    no-way : b ≡ false → RowRight above rem at step table → ⊥
-    no-way e right = rest .no e (λ k h. rw (place k, lowered-drop above rem d (suc k), add-suc d k) (right (d + k) (omega (arith, length-drop d rem))))
+    no-way : b ≡ false → RowRight above rem row → ⊥
+    no-way e right = rest .no e (λ k h. rw (getD-drop d row k 0, lowered-drop above rem d (suc k), add-suc d k) (right (d + k) (omega (arith, length-drop d rem))))
 
--- as the code has them: a part of the slice, and the place after the last of the first letters
-pub rest-of : (d : ℕ) (rem : List ℕ) → take (length rem - d) (drop d rem) ≡ drop d rem
-rest-of d rem = take-all (length rem - d) (drop d rem) (rw length-drop (omega arith))
+-- as the code has them: a part of a slice
+rest-of : (d : ℕ) (list : List ℕ) → take (length list - d) (drop d list) ≡ drop d list
+rest-of d list = take-all (length list - d) (drop d list) (rw length-drop (omega arith))
 
-pub step-on : (k s : ℕ) → 0 < k → (k - 1) * s + s ≡ k * s
-step-on zero s h = absurd (not-suc-le-zero h)
-step-on (suc k) s h = let b : suc k - 1 ≡ k = omega arith in rw b (omega (arith, suc-mul k s))
+pub rest-length : (d : ℕ) (list : List ℕ) → length (take (length list - d) (drop d list)) ≡ length list - d
+rest-length d list = ap length (rest-of d list) ∙ length-drop d list
 
--- ---- both, by the table's own entries
+-- ---- both, judged by the row before
 
-module _ (above : ℕ) (rem : List ℕ) (kept prior at step : ℕ) (table : List ℕ) (row : Row above rem) (inside : (k : ℕ) → k < length rem → at + k * step < length table)
-    (before : RowBefore above rem kept prior step table) where
-  pub room-above : (k : ℕ) → k < kept → Above prior at (k * step) table
-  room-above k h =
-      let few = before .few in
-      record { before = before .inside k h; here = inside k (omega arith); room = omega (arith, before .less k h, row .fits k (omega arith)) }
+module _ (above : ℕ) (rem before row : List ℕ) (known : Row above rem) (size : length row ≡ length rem) (prior : RowBefore above rem (length before) 0 before) where
+  abbrev kept : ℕ
+  kept = length before
 
-  -- one more than in the row before is as in the walk down
-  pub follows-right : ((k : ℕ) → k < kept → OneMore prior at (k * step) table) → (k : ℕ) → k < kept → getD table (at + k * step) 0 ≡ lowered above rem (suc k)
-  follows-right more k h = more k h ∙ before .less k h
+  less : (k : ℕ) → k < kept → getD before k 0 + 1 ≡ lowered above rem (suc k)
+  less k h = rw zero-add at (prior .less k h)
 
-  -- where the walk down stands after them
-  pub stands : 0 < kept → ((k : ℕ) → k < kept → OneMore prior at (k * step) table) → getD table (at + (kept - 1) * step) 0 ≡ lowered above rem kept
-  stands h more =
-      let e : suc (kept - 1) ≡ kept = omega arith in
-      follows-right more (kept - 1) (omega arith) ∙ ap (lowered above rem) e
+  pub front-length : length (take kept row) ≡ kept
+  front-length = length-take-le kept row (omega (arith, prior .few))
 
-  pub right-follows : RowRight above rem at step table → (k : ℕ) → k < kept → OneMore prior at (k * step) table
-  right-follows right k h = let few = before .few in omega (arith, right k (omega arith), before .less k h)
+  pub front-room : (k : ℕ) → k < kept → getD before k 0 < 4294967295
+  front-room k h = omega (arith, less k h, known .fits k (omega (arith, prior .few)))
 
-  -- what is known of the rest, and that it decides the row
-  module _ (some : 0 < kept) (more : (k : ℕ) → k < kept → OneMore prior at (k * step) table) where
-    abbrev rest : List ℕ
-    rest = take (length rem - kept) (drop kept rem)
+  pub right-follows : RowRight above rem row → OneMoreEach before (take kept row)
+  right-follows right k h = getD-take kept row k 0 h ∙ right k (omega (arith, prior .few)) ∙ sym (less k h)
 
-    abbrev cur : ℕ
-    cur = getD table (at + (kept - 1) * step) 0
+  -- what is known of the rest where the first letters are one more, and that it decides the row
+  module _ (some : 0 < kept) (more : OneMoreEach before (take kept row)) where
+    follows-right : (k : ℕ) → k < kept → getD row k 0 ≡ lowered above rem (suc k)
+    follows-right k h = sym (getD-take kept row k 0 h) ∙ more k h ∙ less k h
 
-    abbrev from : ℕ
-    from = at + (kept - 1) * step + step
+    -- where the walk down stands after them
+    stands : getD row (kept - 1) 0 ≡ lowered above rem kept
+    stands =
+        let e : suc (kept - 1) ≡ kept = omega arith in
+        follows-right (kept - 1) (omega arith) ∙ ap (lowered above rem) e
 
-    pub rest-row : Row cur rest
-    rest-row = subst (λ (l : List ℕ). Row cur l) (sym (rest-of kept rem)) (subst (λ (x : ℕ). Row x (drop kept rem)) (sym (stands some more)) (row-drop above rem kept row))
+    abbrev rest : List ℕ → List ℕ
+    rest list = take (length list - kept) (drop kept list)
 
-    pub rest-inside : (k : ℕ) → k < length rest → from + k * step < length table
-    rest-inside k h =
-        let b : kept + k < length rem = omega (arith, ap length (rest-of kept rem), length-drop kept rem) in
-        omega (arith, inside (kept + k) b, add-mul kept k step, step-on kept step some)
+    pub rest-row : Row (getD row (kept - 1) 0) (rest rem)
+    rest-row = rw (stands, rest-of kept rem) (row-drop above rem kept known)
 
-    pub rest-decides : (b : Bool) → Decides b (RowRight cur rest from step table) → Decides b (RowRight above rem at step table)
-    rest-decides b judged =
-        let e : from ≡ at + kept * step = omega (arith, step-on kept step some) in
-        row-joined above rem at step kept table b (follows-right more)
-        (subst (λ (f : ℕ). Decides b (RowRight (lowered above rem kept) (drop kept rem) f step table)) e
-        (subst (λ (l : List ℕ). Decides b (RowRight (lowered above rem kept) l from step table)) (rest-of kept rem)
-        (subst (λ (x : ℕ). Decides b (RowRight x rest from step table)) (stands some more) judged)))
+    pub rest-same : length (rest row) ≡ length (rest rem)
+    rest-same = omega (arith, rest-length kept row, rest-length kept rem)
+
+    pub rest-some : 0 < length (rest rem)
+    rest-some = omega (arith, rest-length kept rem, prior .few)
+
+    pub rest-falling : Falling rem → Falling (rest rem)
+    rest-falling falling = subst Falling (sym (rest-of kept rem)) (falling-drop rem kept falling)
+
+    pub rest-decides : (b : Bool) → Decides b (RowRight (getD row (kept - 1) 0) (rest rem) (rest row)) → Decides b (RowRight above rem row)
+    rest-decides b judged = row-joined above rem kept row b follows-right (rw (stands, rest-of kept rem, rest-of kept row) at judged)
 
 -- ---- the same, written
 
@@ -157,16 +151,13 @@ row-put above rem at d add add₁ add₂ size before first put =
         let z : d + (k - d) ≡ k = omega arith in
         rw z at (rw (y, lowered-drop above rem d (suc (k - d)), add-suc d (k - d)) at r)
 
-module _ (above : ℕ) (rem : List ℕ) (kept prior : ℕ) (add : List ℕ) (row : Row above rem) (before : RowBefore above rem kept prior 1 add) where
-  less : (k : ℕ) → k < kept → getD add (prior + k) 0 + 1 ≡ lowered above rem (suc k)
-  less k h = rw mul-one at (before .less k h)
-
+module _ (above : ℕ) (rem : List ℕ) (kept prior : ℕ) (add : List ℕ) (row : Row above rem) (before : RowBefore above rem kept prior add) where
   pub lift-room : (k : ℕ) → k < kept → getD add (prior + k) 0 < 4294967295
-  lift-room k h = let few = before .few in omega (arith, less k h, row .fits k (omega arith))
+  lift-room k h = let few = before .few in omega (arith, before .less k h, row .fits k (omega arith))
 
   module _ (at : ℕ) (add₁ : List ℕ) (some : 0 < kept) (lift : Lifted kept prior at add add₁) where
     first : (k : ℕ) → k < kept → getD add₁ (at + k) 0 ≡ lowered above rem (suc k)
-    first k h = lift .row k h ∙ less k h
+    first k h = lift .row k h ∙ before .less k h
 
     stands-at : getD add₁ (at + kept - 1) 0 ≡ lowered above rem kept
     stands-at =
@@ -182,3 +173,11 @@ module _ (above : ℕ) (rem : List ℕ) (kept prior : ℕ) (add : List ℕ) (row
         row-put above rem at kept add add₁ add₂ (lift .size) (lift .before) first
         (subst (λ (l : List ℕ). RowPut (lowered above rem kept) l (at + kept) add₁ add₂) (rest-of kept rem)
         (subst (λ (x : ℕ). RowPut x (take (length rem - kept) (drop kept rem)) (at + kept) add₁ add₂) stands-at put))
+
+-- the row as it is written, compared with a table letter by letter
+pub decides-same : (above : ℕ) (rem : List ℕ) (n rows i : ℕ) (row row′ table : List ℕ) (b : Bool) → length rem ≡ n → RowPut above rem 0 row row′ → Decides b (RowSame n rows i 0 row′ table)
+    → Decides b ((k : ℕ) → k < length rem → getD table (k * rows + i) 0 ≡ lowered above rem (suc k))
+decides-same above rem n rows i row row′ table b e put judged = record {
+  yes = λ x k h. judged .yes x k (omega arith) ∙ put .row k h;
+  no = λ x right. judged .no x (λ k h. let s : k < length rem = omega arith in right k s ∙ sym (put .row k s));
+}

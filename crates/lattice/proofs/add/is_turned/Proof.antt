@@ -1,13 +1,14 @@
 -- `lattice::add::is_turned` meets its contract. The invariant: the rows below idx are the same. The measure is what is left of the rows. Assumes nothing.
 use mathlib.Core.Bool.{true≢false, false≢true}
 use mathlib.Core.Path.{_≡_, sym, _∙_}
-use Prim.Native.Nat.{_-_, _*_, _≤_}
+use Prim.Native.Nat.{_+_, _-_, _*_, _≤_}
 use native.Mathlib.Nat.{mul-comm}
 use native.Mathlib.Omega.{arith}
 use borrow.Author.Count.{below-more}
 use borrow.Author.Needs.{needs}
 use borrow.Author.Tests.{not-true, not-false}
 use lib.ListN.{length}
+use Rattle.lattice.proofs.AddWalk.{row-place}
 use Rattle.lattice.proofs.AddLetters.{RowsSame}
 use Rattle.lattice.proofs.add.is_turned.Statement.{statement}
 use Rattle.lattice.proofs.add.is_turned.Tie as tie
@@ -28,8 +29,17 @@ loop-holds c =
     let a = c .before .before .before .args in
     (c .if1 .left ∙ c .before .before .before .pre ∙ mul-comm (a .rows) (a .n), search needs, λ i h. omega arith)
 
+-- the row is in the table
+inside : (c : tie.In-loop Inv-loop μ-loop) → c .before .loop .idx * c .before .before .before .before .before .args .n + c .before .before .before .before .before .args .n ≤ length (c .before .before .before .before .before .args .add .now)
+inside c =
+    let start = c .before .before .before .before .before in
+    rw (start .pre) (row-place (start .args .n) (start .args .rows) (c .before .loop .idx) (c .loop-test .taken))
+
+mul-row-is-same : tie.Need-mul-row-is-same Inv-loop μ-loop
+mul-row-is-same c = omega (arith, inside c)
+
 row-is-same-requires : tie.Need-row-is-same-requires Inv-loop μ-loop
-row-is-same-requires c κs = search needs
+row-is-same-requires c κs = (inside c, c .before .loop .inv .0, c .loop-test .taken)
 
 returns-2 : tie.Need-returns-2 Inv-loop μ-loop
 returns-2 c = record { yes = λ e. absurd (false≢true e); no = λ e turned. c .before .row-is-same .ensures .no (not-true _ (c .if2 .taken)) (turned .same (c .before .before .before .loop .idx) (c .before .before .loop-test .taken)) }
@@ -58,6 +68,7 @@ is-turned-spec =
     μ-loop
     returns
     loop-holds
+    mul-row-is-same
     row-is-same-requires
     returns-2
     add-idx

@@ -1,10 +1,8 @@
 -- `lattice::add::put_next` meets its contract. The first letters from the row before, the others by the walk down from there. Assumes nothing.
-use mathlib.Core.Path.{ap}
 use Prim.Native.Nat.{_+_, _-_, _<_}
 use native.Mathlib.Omega.{arith}
 use borrow.Author.Needs.{needs}
-use lib.ListN.{length, length-drop}
-use Rattle.lattice.proofs.AddNext.{lift-room, put-rest, put-whole, rest-of}
+use Rattle.lattice.proofs.AddNext.{lift-room, put-rest, put-whole, rest-length}
 use Rattle.lattice.proofs.add.put_next.Statement.{statement}
 use Rattle.lattice.proofs.add.put_next.Tie as tie
 
@@ -47,7 +45,7 @@ put-row-requires-2 c κs =
     let a = start .args in
     let lift = c .before .before .before .before .before .lift-row .ensures in
     let some : 0 < a .kept = (let ne = c .before .before .before .before .before .before .before .if1 .left in omega arith) in
-    (start .pre .0, put-rest (a .above) (a .rem .now) (a .kept) (a .prior) (a .add .now) (start .pre .1) (start .pre .3) (a .at) _ some lift, omega (arith, start .pre .2, start .pre .3 .few, lift .size, ap length (rest-of (a .kept) (a .rem .now)), length-drop (a .kept) (a .rem .now)))
+    (start .pre .0, put-rest (a .above) (a .rem .now) (a .kept) (a .prior) (a .add .now) (start .pre .1) (start .pre .3) (a .at) _ some lift, omega (arith, start .pre .2, start .pre .3 .few, lift .size, rest-length (a .kept) (a .rem .now)))
 
 same-length : tie.Need-same-length
 same-length c = search needs
