@@ -19,15 +19,11 @@ use Rattle.lattice.specs.Tally.{lattice, start}
 use Rattle.lattice.specs.Rank.{rank-at, at-fits}
 use Rattle.lattice.specs.Lattice.{length-lattice}
 use Rattle.lattice.specs.Tallies.{start-mono}
-use Rattle.lattice.specs.Leaves.{table-rises}
 use Rattle.lattice.specs.Numbers.{Len, FullRackStart, lenNumber, none, orNone}
 use Rattle.lattice.specs.Served.{facts, starts-small}
-use Rattle.lattice.specs.Tables.{Rises, SameByLetter}
-use Rattle.lattice.specs.TableCalls.{Tables, same-by-letter}
+use Rattle.lattice.specs.TableCalls.{Tables}
 use Rattle.lattice.specs.declared.Ranked.the-variants.{At, Refused}
-use Rattle.maxima.specs.Maxima.{SubsetMax, liftAll}
-use Rattle.maxima.specs.Passes.{length-after}
-use Rattle.maxima.specs.Subsets.{subset-max}
+use Rattle.maxima.specs.Maxima.{SubsetMax}
 
 -- the lengths that the call takes: a row of n ranks for each leave, as many letter by letter or none, and an entry for each multiset in src and in dst
 pub record Lengths (n r add letters src dst : ℕ) : Type 0 where
@@ -87,25 +83,13 @@ module _ (n r : ℕ) where
 
 -- ---- the call's own cases
 
--- what the passes ask
-pub passes-ask : {n r rows src dst : ℕ} {add letters : List ℕ} → rows ≡ start n r → Lengths n r (length add) (length letters) src dst → Tables n r add letters
-    → Rises n rows dst add × SameByLetter n rows add letters × (src ≡ dst)
-passes-ask {n} {r} {add = add} {letters} e l t = rw (e, l .in-dst) (table-rises n r add (t .add-table), same-by-letter n r add letters t, l .in-src)
-
 module _ {n r : ℕ} {add letters : List ℕ} {src entry : List ℤ} where
   pub refused : {k : ℕ} → SubsetMaxNumber n r add letters (length src) (length entry) k → (k ≡ 0 → ⊥) → SubsetMaxed n r add letters src entry k entry
   refused a f = record { answered = a; untouched = λ g. refl; size = refl; filled = λ z. absurd (f z) }
 
-  pub lifted-all : served n r ≡ true → Lengths n r (length add) (length letters) (length src) (length entry) → Tables n r add letters → {rows : ℕ} {exit : List ℤ} → rows ≡ start n r
-      → exit ≡ liftAll n rows add src → SubsetMaxed n r add letters src entry 0 exit
-  lifted-all e l t rows h′ =
-      let h = rw rows at h′ in
-      record {
-        answered = accepted e l t;
-        untouched = λ g. absurd (g refl);
-        size = ap length h ∙ length-after n (start n r) (length (lattice n r)) add src (table-rises n r add (t .add-table)) (l .in-src) n ∙ sym (l .in-dst);
-        filled = λ z y a b. rw h (subset-max n r add (t .add-table) src (l .in-src) y (record { letters = a; tiles = b }));
-      }
+  pub done : served n r ≡ true → Lengths n r (length add) (length letters) (length src) (length entry) → Tables n r add letters → {exit : List ℤ}
+      → SubsetMax n r src exit × (length exit ≡ length entry) → SubsetMaxed n r add letters src entry 0 exit
+  done e l t h = record { answered = accepted e l t; untouched = λ g. absurd (g refl); size = h .1; filled = λ z. h .0 }
 
 -- ---- the definition leaves no choice
 

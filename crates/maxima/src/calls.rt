@@ -80,7 +80,7 @@ fn transform(
     if !tables_are_right(n, r, rows, add, by_letter) {
         return 6;
     }
-    subset_max(n, rows, add, by_letter, src, dst);
+    subset_max(n, r, rows, add, by_letter, src, dst);
     0
 }
 
