@@ -11,7 +11,7 @@ use lib.Dec.{eqb}
 use borrow.Author.Tests.{eq-eqb, ne-eqb}
 use lib.ListN.{length, getD, set, take, length-set}
 use lib.Seq.{length-take-le, take-suc, take-length, getD-set-same, getD-set-other}
-use Rattle.search.specs.Runs.{Absent, over}
+use Rattle.runs.specs.Runs.{Absent, over}
 use Rattle.blanks.specs.Variants.{count}
 use Rattle.blanks.specs.Choices.{count-append}
 

@@ -9,6 +9,8 @@ ghost use Rattle.whole.specs.Whole.{whole};
 ghost use Rattle.lattice.specs.Tables.{up};
 ghost use Rattle.draws.specs.Walk.{factor, met, metTile, totals, Gathered};
 ghost use Rattle.draws.specs.Walking.{Walking};
+use search::smaller;
+use sums::weight::held;
 use sums::weight::larger;
 
 // Of the racks met so far: the sum of ways times bests, the sum of ways, and the largest size of a best.
@@ -16,18 +18,6 @@ pub struct Totals {
     pub num: f64,
     pub den: f64,
     pub most: u64,
-}
-
-fn wide(x: u8) -> usize
-    ensures { λ r. ⌜ (r ≡ x) × (r ≤ 255) ⌝ }
-{
-    x as usize
-}
-
-fn smaller(a: usize, b: usize) -> usize
-    ensures { λ r. ⌜ r ≡ min a b ⌝ }
-{
-    if a < b { a } else { b }
 }
 
 // One rack more, met in w ways.
@@ -75,7 +65,7 @@ fn gain_tile(
     requires { ⌜ ((r : ℕ) × (left : ℕ) × Walking r (now add) (now «full_v») (now pool) u 1 left ridx) × (u < length (now pool)) ⌝ }
     ensures { λ r. ⌜ Gathered (now («full_v» .entry)) (metTile (length (now (pool .entry))) (now (add .entry)) u (getD (now (pool .entry)) u 0) w ridx) (totals num den most) r ⌝ }
 {
-    let count = wide(pool[u]);
+    let count = held(pool[u]);
     if count == 0 {
         return Totals { num, den, most };
     }
@@ -137,7 +127,7 @@ pub fn aggregate(
     if remaining == 1 {
         return aggregate_last(add, full_v, pool, t, w, ridx, num, den, most);
     }
-    let u = wide(pool[t]);
+    let u = held(pool[t]);
     let rest = left - u;
     let high = smaller(u, remaining);
     let mut sums = aggregate(

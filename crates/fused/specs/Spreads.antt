@@ -31,7 +31,7 @@ use Rattle.extensions.specs.Extensions.{stopOf, extension, extent, extensions, 
 use Rattle.extensions.specs.Racks.{Leave, racks-extend}
 use Rattle.hands.specs.Hands.{holds, ways, handSum, handSum-cond, ways-total, ways-drawable, cond-le}
 use Rattle.search.specs.Counts.{atMost}
-use Rattle.search.specs.Runs.{Absent}
+use Rattle.runs.specs.Runs.{Absent}
 use Rattle.sums.specs.Spread.{numberAt, addEach, extended, Spreads, length-addEach}
 use Rattle.sums.specs.Marks.{Adds, addEach-at, extended-sum}
 use Rattle.sums.specs.Weight.{Clear}

@@ -2,13 +2,11 @@
 ghost use mathlib.Core.Path.{_≡_};
 ghost use mathlib.Core.Bool.{true};
 ghost use mathlib.Core.Logic.{_⊎_};
-ghost use Prim.Native.Nat.{_+_, _*_, _^_, _≤_, _<_, max};
+ghost use Prim.Native.Nat.{_<_};
 ghost use lib.ListN.{length};
 ghost use Rattle.lattice.specs.AddRows.{Decides};
 ghost use Rattle.lattice.specs.Answers.{served};
-ghost use Rattle.lattice.specs.Binomial.{binomial};
-ghost use Rattle.lattice.specs.TableCalls.{Tables};
-ghost use Rattle.lattice.specs.Tally.{total, lattice, start};
+ghost use Rattle.lattice.specs.Tally.{lattice, start};
 ghost use Rattle.fused.specs.Answer.{input, lent, inForce, ReadLengths, LentLengths, WordSheet, Words, Cleared, FusedNumber};
 use crate::mode::Mode;
 use crate::mode::in_force;
@@ -119,18 +117,8 @@ fn word_sheet(sheet: &[i32]) -> bool
 }
 
 // Whether scatter, where it is in force, has a sheet and a leave_max that it can start from.
-fn scatters(
-    n: usize,
-    r: usize,
-    lo: usize,
-    add: &[u32],
-    by_letter: &[u32],
-    sheet: &[i32],
-    leave: &[i32],
-    leave_max: &[i32],
-    mode: Mode,
-) -> bool
-    requires { ⌜ (n ≤ 64) × (lo ≡ start n r) × Tables n r (now add) (now «by_letter») × (length (now sheet) ≡ length (lattice n r)) × (length (now leave) ≡ length (lattice n r))
+fn scatters(n: usize, r: usize, sheet: &[i32], leave: &[i32], leave_max: &[i32], mode: Mode) -> bool
+    requires { ⌜ (served n r ≡ true) × (length (now sheet) ≡ length (lattice n r)) × (length (now leave) ≡ length (lattice n r))
         × (inForce mode ≡ true → length (now «leave_max») ≡ length (lattice n r)) ⌝ }
     ensures { λ b. ⌜ Decides b (inForce mode ≡ true → Words n r (now (sheet .entry)) (now (leave .entry)) (now («leave_max» .entry))) ⌝ }
 {
@@ -138,7 +126,7 @@ fn scatters(
         if !word_sheet(sheet) {
             return false;
         }
-        if is_subset_max(n, r, lo, add, by_letter, leave, leave_max) {
+        if is_subset_max(n, r, leave, leave_max) {
             return true;
         }
         return false;
@@ -213,7 +201,7 @@ pub fn refusal(
     if !tables_are_right(n, r, lo, add, by_letter) {
         return 6;
     }
-    if !scatters(n, r, lo, add, by_letter, sheet, leave, leave_max, mode) {
+    if !scatters(n, r, sheet, leave, leave_max, mode) {
         return 7;
     }
     if !cleared(num, den, ways) {

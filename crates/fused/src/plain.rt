@@ -8,6 +8,7 @@ ghost use Rattle.extensions.specs.Racks.{Leave};
 ghost use Rattle.fused.specs.Zeta.{clipped, waysAt};
 ghost use Rattle.fused.specs.Spreads.{drawnValue, drawnAt, Taken, sumRest, leaveAdded, spreadLeave, spreadAll, Taking, Spreading};
 use extensions::extend_at;
+use extensions::next_leave;
 use search::size_start;
 use sums::spread::spread;
 
@@ -86,30 +87,29 @@ fn spread_leave(
     }
 }
 
-// The same for the leave at a rank.
+// The same over numbers that are lent: a slice of them for as many racks as extend the leave, and one more.
 fn spread_at(
     table: &[u64; 1105],
     r: usize,
     lo: usize,
+    rank: usize,
+    stop: usize,
+    first: usize,
     ways: &[f64],
     best: &[i32],
-    rank: usize,
-    tally: &mut [u8],
+    tally: &[u8],
+    values: &mut [f64],
+    counts: &mut [f64],
     num: &mut [f64],
     den: &mut [f64],
 )
-    requires { ⌜ Binomials (now table) × Spreading (length (now tally)) r lo (length (now ways)) (length (now best))
-        × (start (length (now tally)) (r - 1) ≤ rank) × (rank < start (length (now tally)) r) ⌝ }
-    ensures { λ _. ⌜ (now (num .exit) ≡ spreadLeave (length (now (tally .entry))) r lo (now (ways .entry)) (drawnAt lo (now (ways .entry)) (clipped (now (best .entry)))) rank (now (num .entry)))
-        × (now (den .exit) ≡ spreadLeave (length (now (tally .entry))) r lo (now (ways .entry)) (waysAt lo (now (ways .entry))) rank (now (den .entry)))
-        × (length (now (tally .exit)) ≡ length (now (tally .entry))) ⌝ }
+    requires { ⌜ Binomials (now table) × Spreading (length (now tally)) r lo (length (now ways)) (length (now best)) × Leave (length (now tally)) r rank (now tally) stop first
+        × (length (now values) ≡ 65) × (length (now counts) ≡ 65) ⌝ }
+    ensures { λ _. ⌜ (now (num .exit) ≡ leaveAdded (length (now (tally .entry))) lo (now (ways .entry)) (drawnAt lo (now (ways .entry)) (clipped (now (best .entry)))) (now (tally .entry)) (now (num .entry)))
+        × (now (den .exit) ≡ leaveAdded (length (now (tally .entry))) lo (now (ways .entry)) (waysAt lo (now (ways .entry))) (now (tally .entry)) (now (den .entry)))
+        × (length (now (values .exit)) ≡ 65) × (length (now (counts .exit)) ≡ 65) ⌝ }
 {
-    let leave = extend_at(r, rank, tally);
-    let stop = leave.stop;
-    let first = leave.first;
     let k = tally.len() - stop + 2;
-    let mut values = [0.0f64; 65];
-    let mut counts = [0.0f64; 65];
     spread_leave(
         table,
         r,
@@ -127,7 +127,7 @@ fn spread_at(
     );
 }
 
-// Every leave of one tile less than a full rack.
+// Every leave of one tile less than a full rack, leave after leave, over a tally.
 pub fn spread_racks(
     table: &[u64; 1105],
     r: usize,
@@ -142,8 +142,27 @@ pub fn spread_racks(
     ensures { λ _. ⌜ (now (num .exit) ≡ spreadAll (length (now (tally .entry))) r lo (now (ways .entry)) (drawnAt lo (now (ways .entry)) (clipped (now (best .entry)))) (now (num .entry)))
         × (now (den .exit) ≡ spreadAll (length (now (tally .entry))) r lo (now (ways .entry)) (waysAt lo (now (ways .entry))) (now (den .entry))) ⌝ }
 {
-    let from = size_start(table, tally.len(), r - 1);
+    let n = tally.len();
+    let from = size_start(table, n, r - 1);
+    let mut values = [0.0f64; 65];
+    let mut counts = [0.0f64; 65];
+    let mut e = extend_at(r, from, tally);
     for k in 0..lo - from {
-        spread_at(table, r, lo, ways, best, from + k, tally, num, den);
+        spread_at(
+            table,
+            r,
+            lo,
+            from + k,
+            e.stop,
+            e.first,
+            ways,
+            best,
+            tally,
+            &mut values[..65],
+            &mut counts[..65],
+            num,
+            den,
+        );
+        e = next_leave(e, tally);
     }
 }

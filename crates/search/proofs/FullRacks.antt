@@ -10,7 +10,7 @@ use lib.ListN.{length}
 use Rattle.lattice.specs.Binomial.{binomial}
 use Rattle.lattice.specs.Tally.{start}
 use Rattle.lattice.specs.Answers.{served}
-use Rattle.lattice.proofs.Served.{facts}
+use Rattle.lattice.specs.Served.{facts}
 use Rattle.search.specs.Split.{small, allOf}
 use Rattle.search.specs.Racks.{Filled, filled-rack}
 use Rattle.search.specs.Refusals.{tableNumber}

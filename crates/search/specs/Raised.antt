@@ -17,7 +17,8 @@ use Rattle.lattice.specs.Tally.{start}
 use Rattle.lattice.specs.Step.{step}
 use Rattle.search.specs.Split.{small, guarded, Bounded, worthAt, Worths, Ready}
 use Rattle.search.specs.Walk.{Turn, Turns, ready-next, turn-next, walk-done}
-use Rattle.search.specs.Runs.{Absent, present, skip-up, skip-down, end-one}
+use Rattle.runs.specs.Runs.{Absent, present}
+use Rattle.search.specs.Runs.{skip-up, skip-down, end-one}
 
 -- two entries whose sum fits: neither is beyond ±536,870,911
 pub record Summed (a b : ℤ) : Type 0 where

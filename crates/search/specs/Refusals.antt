@@ -16,7 +16,7 @@ use Rattle.lattice.specs.Tally.{total}
 use Rattle.lattice.specs.Answers.{served, lenAnswer}
 use Rattle.lattice.specs.declared.Ranked.{Ranked}
 use Rattle.lattice.specs.declared.Ranked.the-variants.{At, Refused as Refuse}
-use Rattle.lattice.proofs.Served.{Served, facts}
+use Rattle.lattice.specs.Served.{Served, facts}
 use Rattle.search.specs.Counts.{atMost, atMost-mono}
 use Rattle.search.specs.Split.{small, allOf, partsSmall}
 

@@ -7,15 +7,15 @@ ghost use lib.ListN.{length, getD, take};
 ghost use Rattle.laws.specs.Greatest.{Greatest, Below};
 ghost use Rattle.lattice.specs.Binomial.{Binomials};
 ghost use Rattle.search.specs.Split.{guarded, Bounded, Whole, Worths, worthAt};
-ghost use Rattle.search.specs.Runs.{present};
+ghost use Rattle.runs.specs.Runs.{present};
 ghost use Rattle.search.specs.Raised.{Summed, Raised, Cleared, RunReady};
 ghost use Rattle.search.specs.Extended.{Extending, Counted, Extended};
 use crate::added;
-use crate::letters_of;
-use crate::next_run;
 use crate::rank_step;
 use crate::size_start;
 use crate::wide;
+use runs::letters_of;
+use runs::next_run;
 use whole::UNPLAYABLE;
 
 // The greater of an entry and of the sum of two others.

@@ -17,7 +17,7 @@ use Rattle.lattice.specs.Tally.{total, start}
 use Rattle.lattice.specs.Tallies.{count}
 use Rattle.lattice.specs.Step.{step, step-none, total-append}
 use Rattle.search.specs.Counts.{atMost, atMost-mono, count-le, count-is, step-counts, step-below, rank-inside}
-use Rattle.search.specs.Runs.{Absent, over, back}
+use Rattle.runs.specs.Runs.{Absent, over, back}
 use Rattle.search.specs.Walk.{total-take}
 use Rattle.sums.specs.Spread.{addOne, numberAt, addEach, run, offers, offersTo, reach, withLast, extended, Ready, Spreads, length-addEach, addEach-append}
 use Rattle.sums.specs.Marks.{offers-none, offers-some}

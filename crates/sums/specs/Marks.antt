@@ -23,7 +23,7 @@ use Rattle.lattice.specs.Tally.{total, start, within, rankOf, parts, addTile, t
 use Rattle.lattice.specs.Step.{step, stepsBefore, step-is, step-none, within-append, stepsBefore-append}
 use Rattle.lattice.specs.Rank.{rank-injective, length-addTile}
 use Rattle.lattice.specs.Parts.{parts-within, part-length}
-use Rattle.search.specs.Runs.{Absent, over}
+use Rattle.runs.specs.Runs.{Absent, over}
 use Rattle.search.specs.Walk.{total-snoc}
 use Rattle.hands.specs.Hands.{holds}
 use Rattle.hands.specs.PartSums.{same, same-eq, sum-parts, sum-parts-cons}

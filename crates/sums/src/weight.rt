@@ -9,6 +9,13 @@ ghost use Rattle.lattice.specs.Binomial.{binomial};
 ghost use Rattle.lattice.specs.Tally.{total};
 ghost use Rattle.sums.specs.Weight.{weightOf, largest, Clear};
 
+// A pool's count of a letter.
+pub fn held(count: u8) -> usize
+    ensures { λ r. ⌜ (r ≡ count) × (r ≤ 255) ⌝ }
+{
+    count as usize
+}
+
 // How many tiles a pool has.
 pub fn tiles_in(pool: &[u8]) -> usize
     requires { ⌜ length (now pool) ≤ 64 ⌝ }

@@ -11,7 +11,7 @@ use Rattle.laws.specs.Greatest.{GreatestBy}
 use Rattle.lattice.specs.Tally.{start}
 use Rattle.search.specs.declared.Kept.{Kept}
 use Rattle.search.specs.Order.{KeptLe}
-use Rattle.search.specs.Runs.{present}
+use Rattle.runs.specs.Runs.{present}
 use Rattle.search.specs.Keep.{KeepReady, Keeps, end-below, keep-end, room, keep-next, all-fits, all-low, all-next}
 use Rattle.search.specs.KeepRuns.{keep-over, keep-back, letters-left}
 use Rattle.search.proofs.keep_all.Statement.{statement}

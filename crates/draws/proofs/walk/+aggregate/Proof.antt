@@ -23,8 +23,8 @@ use Rattle.draws.proofs.walk.aggregate_last.Reads as aggregate-last
 use Rattle.draws.proofs.walk.gain.Reads as gain
 use Rattle.draws.proofs.walk.next_binomial.Reads as next-binomial
 use Rattle.draws.proofs.walk.raised.Reads as raised
-use Rattle.draws.proofs.walk.smaller.Reads as smaller
-use Rattle.draws.proofs.walk.wide.Reads as wide
+use Rattle.search.proofs.smaller.Reads as smaller
+use Rattle.sums.proofs.weight.held.Reads as held
 use Rattle.draws.proofs.walk.+aggregate.{statement}
 use Rattle.draws.proofs.walk.+aggregate.Tie.{close}
 
@@ -37,7 +37,7 @@ at m = and 3 aggregate-kinds.ps (is 3 aggregate-kinds.ps μ m) aggregate.Pre
 
 -- the contracts of the callees, of which it is called itself below m
 abbrev callees : ℕ → lts.Claims
-callees m = (gain.Asked, gain.Learnt, aggregate-last.Asked, aggregate-last.Learnt, wide.Asked, wide.Learnt, smaller.Asked, smaller.Learnt, and 3 aggregate-kinds.ps (falls 3 aggregate-kinds.ps _<_ μ m) aggregate.Pre, aggregate.Post, next-binomial.Asked, next-binomial.Learnt, raised.Asked, raised.Learnt)
+callees m = (gain.Asked, gain.Learnt, aggregate-last.Asked, aggregate-last.Learnt, held.Asked, held.Learnt, smaller.Asked, smaller.Learnt, and 3 aggregate-kinds.ps (falls 3 aggregate-kinds.ps _<_ μ m) aggregate.Pre, aggregate.Post, next-binomial.Asked, next-binomial.Learnt, raised.Asked, raised.Learnt)
 
 abbrev Inv : lts.InvT-loop
 Inv add full-v pool t remaining left w ridx num den most u rest high sums₀ binom₀ idx₀ j₀ sums binom idx j =
@@ -66,14 +66,14 @@ module _ (m : ℕ) where
   returns-3 : lts.Need-returns-3 (callees m) (at m) aggregate.Post Inv μ-loop
   returns-3 c = rw (c .before .if3 .taken) (c .aggregate-last .ensures)
 
-  shared-slice-read-wide : lts.Need-shared-slice-read-wide (callees m) (at m) aggregate.Post Inv μ-loop
-  shared-slice-read-wide c = letter-there (c .before .before .before .before .before .before .pre .1 .1) (c .before .before .before .before .before .before .args .w) (c .before .before .before .if1 .left) (c .before .before .if2 .left)
+  shared-slice-read-held : lts.Need-shared-slice-read-held (callees m) (at m) aggregate.Post Inv μ-loop
+  shared-slice-read-held c = letter-there (c .before .before .before .before .before .before .pre .1 .1) (c .before .before .before .before .before .before .args .w) (c .before .before .before .if1 .left) (c .before .before .if2 .left)
 
-  wide-requires : lts.Need-wide-requires (callees m) (at m) aggregate.Post Inv μ-loop
-  wide-requires c κs = search needs
+  held-requires : lts.Need-held-requires (callees m) (at m) aggregate.Post Inv μ-loop
+  held-requires c κs = search needs
 
   sub-rest : lts.Need-sub-rest (callees m) (at m) aggregate.Post Inv μ-loop
-  sub-rest c = omega (arith, left-is (c .before .before .before .before .before .before .before .pre .1 .1) (c .before .before .before .before .before .before .before .args .w) (c .before .before .before .before .if1 .left) (c .before .before .before .if2 .left) (c .wide .ensures .0))
+  sub-rest c = omega (arith, left-is (c .before .before .before .before .before .before .before .pre .1 .1) (c .before .before .before .before .before .before .before .args .w) (c .before .before .before .before .if1 .left) (c .before .before .before .if2 .left) (c .held .ensures .0))
 
   smaller-requires : lts.Need-smaller-requires (callees m) (at m) aggregate.Post Inv μ-loop
   smaller-requires c κs = search needs
@@ -89,16 +89,16 @@ module _ (m : ℕ) where
   unfolding climb
   aggregate-requires c κs =
       let s = c .before .before .before .before .before .before .before .before in
-      (omega (arith, s .pre .0, there c), (s .pre .1 .0, walk-next (s .pre .1 .1) (s .args .w) (c .before .before .before .before .before .if1 .left) (c .before .before .before .before .if2 .left) (c .before .wide .ensures .0) 0 (add-one (s .args .t)) refl (omega arith) (omega arith) refl))
+      (omega (arith, s .pre .0, there c), (s .pre .1 .0, walk-next (s .pre .1 .1) (s .args .w) (c .before .before .before .before .before .if1 .left) (c .before .before .before .before .if2 .left) (c .before .held .ensures .0) 0 (add-one (s .args .t)) refl (omega arith) (omega arith) refl))
 
   loop-holds : lts.Need-loop-holds (callees m) (at m) aggregate.Post Inv μ-loop
   unfolding climb running
   loop-holds c =
       let s = c .before .before .before .before .before .before .before .before .before in
-      (omega arith, one-literal, refl, turn-first (s .pre .1 .1) (s .args .w) (c .before .before .before .before .before .before .if1 .left) (c .before .before .before .before .before .if2 .left) (c .before .before .wide .ensures .0) (add-one (s .args .t)) (c .aggregate .ensures))
+      (omega arith, one-literal, refl, turn-first (s .pre .1 .1) (s .args .w) (c .before .before .before .before .before .before .if1 .left) (c .before .before .before .before .before .if2 .left) (c .before .before .held .ensures .0) (add-one (s .args .t)) (c .aggregate .ensures))
 
   next-binomial-requires : lts.Need-next-binomial-requires (callees m) (at m) aggregate.Post Inv μ-loop
-  next-binomial-requires c κs = (omega (arith, c .before .before .before .smaller .ensures), c .before .before .before .before .wide .ensures .1)
+  next-binomial-requires c κs = (omega (arith, c .before .before .before .smaller .ensures), c .before .before .before .before .held .ensures .1)
 
   raised-requires : lts.Need-raised-requires (callees m) (at m) aggregate.Post Inv μ-loop
   raised-requires c κs =
@@ -131,7 +131,7 @@ module _ (m : ℕ) where
       let j = c .before .before .before .loop .j in
       let h = few (c .before .before) in (
         omega (arith, s .pre .0, there (c .before .before .before .before .before)),
-        (s .pre .1 .0, walk-next (s .pre .1 .1) (s .args .w) (c .before .before .before .before .before .before .before .before .before .before .if1 .left) (c .before .before .before .before .before .before .before .before .before .if2 .left) (c .before .before .before .before .before .before .wide .ensures .0) (suc j) (add-one (s .args .t)) refl h (omega arith) (rank-next c)),
+        (s .pre .1 .0, walk-next (s .pre .1 .1) (s .args .w) (c .before .before .before .before .before .before .before .before .before .before .if1 .left) (c .before .before .before .before .before .before .before .before .before .if2 .left) (c .before .before .before .before .before .before .held .ensures .0) (suc j) (add-one (s .args .t)) refl h (omega arith) (rank-next c)),
       )
 
   add-j : lts.Need-add-j (callees m) (at m) aggregate.Post Inv μ-loop
@@ -145,7 +145,7 @@ module _ (m : ℕ) where
   loop-again c =
       let s = c .before .before .before .before .before .before .before .before .before .before .before .before .before .before in
       let l = c .before .before .before .before .loop in
-      let u = c .before .before .before .before .before .before .before .wide .result in
+      let u = c .before .before .before .before .before .before .before .held .result in
       let e = add-one (l .j) in
       let b : c .before .before .next-binomial .result ≡ running u (suc (l .j)) =
       c .before .before .next-binomial .ensures ∙ ap (λ (x : Float). div binary64 (mul binary64 x (whole (pos (u - l .j)))) (whole (pos (l .j + 1)))) (l .inv .1) ∙ ap (λ (k : ℕ). div binary64 (mul binary64 (running u (l .j)) (whole (pos (u - l .j)))) (whole (pos k))) e in
@@ -153,14 +153,14 @@ module _ (m : ℕ) where
         omega arith,
         b,
         rank-next (c .before),
-        turn-next (s .pre .1 .1) (s .args .w) (c .before .before .before .before .before .before .before .before .before .before .before .if1 .left) (c .before .before .before .before .before .before .before .before .before .before .if2 .left) (c .before .before .before .before .before .before .before .wide .ensures .0) (l .j) (add-one (s .args .t)) (omega arith) b (rank-next (c .before)) (l .inv .3) (c .aggregate2 .ensures),
+        turn-next (s .pre .1 .1) (s .args .w) (c .before .before .before .before .before .before .before .before .before .before .before .if1 .left) (c .before .before .before .before .before .before .before .before .before .before .if2 .left) (c .before .before .before .before .before .before .before .held .ensures .0) (l .j) (add-one (s .args .t)) (omega arith) b (rank-next (c .before)) (l .inv .3) (c .aggregate2 .ensures),
       )
 
   returns-4 : lts.Need-returns-4 (callees m) (at m) aggregate.Post Inv μ-loop
   returns-4 c =
       let s = c .before .before .before .before .before .before .before .before .before .before .before in
       let l = c .before .loop in
-      turns-done (s .pre .1 .1) (s .args .w) (c .before .before .before .before .before .before .before .before .if1 .left) (c .before .before .before .before .before .before .before .if2 .left) (c .before .before .before .before .wide .ensures .0) (omega (arith, c .before .before .before .smaller .ensures, l .inv .0)) (l .inv .3)
+      turns-done (s .pre .1 .1) (s .args .w) (c .before .before .before .before .before .before .before .before .if1 .left) (c .before .before .before .before .before .before .before .if2 .left) (c .before .before .before .before .held .ensures .0) (omega (arith, c .before .before .before .smaller .ensures, l .inv .0)) (l .inv .3)
 
 pub +aggregate-spec : {M : Type 1} → statement M
 +aggregate-spec =
@@ -170,8 +170,8 @@ pub +aggregate-spec : {M : Type 1} → statement M
     (gain-requires m)
     (returns m)
     (returns-2 m) (aggregate-last-requires m) (returns-3 m)
-    (shared-slice-read-wide m)
-    (wide-requires m)
+    (shared-slice-read-held m)
+    (held-requires m)
     (sub-rest m)
     (smaller-requires m)
     (add-aggregate m)

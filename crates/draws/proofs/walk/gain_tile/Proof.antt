@@ -10,16 +10,16 @@ use Rattle.draws.specs.Walking.{tile-place, tile-best, tile-none, tile-s
 use Rattle.draws.proofs.walk.gain_tile.Statement.{statement}
 use Rattle.draws.proofs.walk.gain_tile.Tie as tie
 
-shared-slice-read-wide : tie.Need-shared-slice-read-wide
-shared-slice-read-wide c = c .before .before .before .pre .1
+shared-slice-read-held : tie.Need-shared-slice-read-held
+shared-slice-read-held c = c .before .before .before .pre .1
 
-wide-requires : tie.Need-wide-requires
-wide-requires c κs = search needs
+held-requires : tie.Need-held-requires
+held-requires c κs = search needs
 
 returns : tie.Need-returns
 returns c =
     let s = c .before .before .before .before .before in
-    tile-none (length (s .args .pool .now)) (s .args .add .now) (s .args .u) (s .args .w) (s .args .ridx) _ (sym (c .before .wide .ensures .0) ∙ c .if1 .taken)
+    tile-none (length (s .args .pool .now)) (s .args .add .now) (s .args .u) (s .args .w) (s .args .ridx) _ (sym (c .before .held .ensures .0) ∙ c .if1 .taken)
 
 raised-requires : tie.Need-raised-requires
 raised-requires c κs =
@@ -27,7 +27,7 @@ raised-requires c κs =
     tile-place (s .pre .0 .2) (s .pre .1)
 
 next-binomial-requires : tie.Need-next-binomial-requires
-next-binomial-requires c κs = let n = c .before .if1 .left in (omega arith, c .before .before .wide .ensures .1)
+next-binomial-requires c κs = let n = c .before .if1 .left in (omega arith, c .before .before .held .ensures .1)
 
 gain-requires : tie.Need-gain-requires
 gain-requires c κs =
@@ -37,7 +37,7 @@ gain-requires c κs =
 returns-2 : tie.Need-returns-2
 returns-2 c =
     let s = c .before .before .before .before .before .before .before .before in
-    let v = c .before .before .before .before .wide in
+    let v = c .before .before .before .before .held in
     subst (λ (u : ℕ). Gathered (s .args .full-v .now) (metTile (length (s .args .pool .now)) (s .args .add .now) (s .args .u) u (s .args .w) (s .args .ridx)) (totals (s .args .num) (s .args .den) (s .args .most)) (c .gain .result)) (v .ensures .0)
     (tile-some (length (s .args .pool .now)) (s .args .add .now) (s .args .u) (s .args .w) (s .args .ridx) (v .result) (c .before .before .before .if1 .left) one-literal (c .before .next-binomial .ensures) (c .before .before .raised .ensures) (c .gain .ensures))
 
@@ -45,8 +45,8 @@ pub gain-tile-spec : {M : Type 1} → statement M
 gain-tile-spec =
     tie.close
     (tie.spec
-    shared-slice-read-wide
-    wide-requires
+    shared-slice-read-held
+    held-requires
     returns
     raised-requires
     next-binomial-requires

@@ -1,6 +1,6 @@
 -- `fused::fuse::fill_bests` meets its contract: the mode is of one of three kinds. Assumes nothing.
 use mathlib.Core.Path.{sym, _∙_}
-use Rattle.fused.specs.Fuse.{ranks-rise, ranks-same, splitting, scattering, bests-alone, bests-scattered, bests-split, racks-after}
+use Rattle.fused.specs.Fuse.{splitting, scattering, bests-alone, bests-scattered, bests-split, racks-after}
 use borrow.Author.Needs.{needs}
 use Rattle.fused.proofs.fuse.fill_bests.Statement.{statement}
 use Rattle.fused.proofs.fuse.fill_bests.Tie as tie
@@ -11,7 +11,7 @@ sheet-alone-requires c κs = search needs
 subset-max-requires : tie.Need-subset-max-requires
 subset-max-requires c κs =
     let p = c .before .before .before .before .before .before .before .before .pre in
-    (ranks-rise (p .4) (p .1) (p .3), ranks-same (p .4) (p .1), p .4 .lengths .in-sheet ∙ sym (p .3))
+    (p .1, p .4 .ranks, p .4 .lengths .in-sheet, p .3)
 
 in-force-requires : tie.Need-in-force-requires
 in-force-requires c κs = search needs
@@ -33,7 +33,7 @@ same-length c = search needs
 returns : tie.Need-returns
 returns c =
     let p = c .before .before .before .before .before .before .before .before .before .before .pre in
-    (bests-alone (p .4) (sym (c .before .before .before .before .sheet-alone .ensures) ∙ c .before .before .before .if1 .taken) (p .1) (p .3) (c .before .subset-max .ensures), p .2)
+    (bests-alone (p .4) (sym (c .before .before .before .before .sheet-alone .ensures) ∙ c .before .before .before .if1 .taken) (c .before .subset-max .ensures), p .2)
 
 same-length-2 : tie.Need-same-length-2
 same-length-2 c = search needs

@@ -68,7 +68,7 @@ scatters-requires : tie.Need-scatters-requires
 scatters-requires c κs =
     let s = c .before .before .before .before .before .before .before .before .before .before .before .before .before .before .before .before in
     let read = reads (c .before .before .before .before .before .before .before .before) in
-    (facts (s .args .n) (s .args .r) (s .pre .0) .letters, s .pre .1, ranks c, read .in-sheet, read .in-leave, read .in-leave-max)
+    (s .pre .0, read .in-sheet, read .in-leave, read .in-leave-max)
 
 returns-6 : tie.Need-returns-6
 returns-6 c = FusedNumber.words (c .before .before .before .before .before .before .before .before .before .before .before .before .before .before .before .before .before .before .pre .0) (lens (c .before .before .before .before .before .before .before .before)) (entries (c .before .before .before .before)) (ranks (c .before .before)) (c .before .scatters .ensures .no (not-true _ (c .if6 .taken)))

@@ -3,8 +3,6 @@ use mathlib.Core.Path.{sym, _∙_}
 use native.Mathlib.Omega.{arith}
 use borrow.Author.Needs.{needs}
 use borrow.Author.Tests.{not-true, not-false}
-use Rattle.lattice.specs.Lattice.{length-lattice-start}
-use Rattle.lattice.specs.TableCalls.{same-by-letter}
 use Rattle.fused.specs.Modes.{true-false}
 use Rattle.fused.proofs.Judges.{says-yes, says-no, some-multiset}
 use Rattle.fused.proofs.judge.scatters.Statement.{statement}
@@ -15,18 +13,16 @@ in-force-requires c κs = search needs
 
 word-sheet-requires : tie.Need-word-sheet-requires
 word-sheet-requires c κs =
-    let s = c .before .before .before .before in
-    omega (arith, s .pre .3, some-multiset (s .args .n) (s .args .r))
+    let s = c .before .before in
+    omega (arith, s .pre .1, some-multiset (s .args .n) (s .args .r))
 
 returns : tie.Need-returns
 returns c = says-no (λ h. c .before .word-sheet .ensures .no (not-true _ (c .if2 .taken)) (h (sym (c .before .before .before .in-force .ensures) ∙ c .before .before .if1 .taken) .word-sheet))
 
 is-subset-max-requires : tie.Need-is-subset-max-requires
 is-subset-max-requires c κs =
-    let s = c .before .before .before .before .before .before in
-    let size = length-lattice-start (s .args .n) (s .args .r) in
-    let longest = s .pre .5 (sym (c .before .before .before .in-force .ensures) ∙ c .before .before .if1 .taken) in
-    (record { leaves = s .pre .1; table = s .pre .2 .add-table; in-d = omega (arith, s .pre .4); in-m = omega arith }, s .pre .0, rw (s .pre .1) (same-by-letter (s .args .n) (s .args .r) (s .args .add .now) (s .args .by-letter .now) (s .pre .2)))
+    let s = c .before .before .before .before in
+    record { sizes = s .pre .0; in-d = s .pre .2; in-m = s .pre .3 (sym (c .before .before .before .in-force .ensures) ∙ c .before .before .if1 .taken) }
 
 returns-2 : tie.Need-returns-2
 returns-2 c = says-yes (λ _. record { word-sheet = c .before .before .before .word-sheet .ensures .yes (not-false _ (c .before .before .if2 .left)); is-max = c .before .is-subset-max .ensures .yes (c .if3 .taken) })

@@ -9,7 +9,8 @@ use borrow.Fn.PlainCycle.{Measures, is, falls, and}
 use lib.ListN.{length, take}
 use Rattle.search.specs.Counts.{atMost}
 use Rattle.search.specs.Walk.{Turns, room-played, room-kept}
-use Rattle.search.specs.Runs.{present, ones-none, end-ready}
+use Rattle.runs.specs.Runs.{present, ones-none}
+use Rattle.search.specs.Runs.{end-ready}
 use Rattle.search.specs.Raised.{Raised, RunReady, raised-more, raised-up, raised-end, turns-start, run-down, run-next, run-turn, run-done}
 use Rattle.search.proofs.extended.raise_splits.Reads as walk
 use Rattle.search.proofs.extended.raise_splits.Kinds as kinds
@@ -17,7 +18,7 @@ use Rattle.search.proofs.extended.+raise_splits.Lts-raise_splits as lts
 use Rattle.search.proofs.extended.raise_last.Reads as raise-last
 use Rattle.search.proofs.extended.raise_worths.Reads as raise-worths
 use Rattle.search.proofs.added.Reads as added
-use Rattle.search.proofs.next_run.Reads as next-run
+use Rattle.runs.proofs.next_run.Reads as next-run
 use Rattle.search.proofs.wide.Reads as wide
 use Rattle.search.proofs.extended.+raise_splits.{statement}
 use Rattle.search.proofs.extended.+raise_splits.Tie.{close}

@@ -8,14 +8,14 @@ use borrow.Fn.Kinds.{In}
 use borrow.Fn.PlainCycle.{Measures, is, falls, and}
 use lib.ListN.{length}
 use Rattle.lattice.specs.Step.{step}
-use Rattle.search.specs.Runs.{Absent, ones-none, none-present}
+use Rattle.runs.specs.Runs.{Absent, ones-none, none-present}
 use Rattle.sums.specs.Spread.{offers, Ready, length-addEach}
 use Rattle.sums.proofs.Spreading.{Turned, turned-none, turned-long, turned-more, ready-rank, room, ready-next, walk-turn, walk-done, walk-whole, skip-up, skip-down}
 use Rattle.sums.proofs.spread.spread_from.Reads as walk
 use Rattle.sums.proofs.spread.spread_from.Kinds as kinds
 use Rattle.sums.proofs.spread.+spread_from.Lts-spread_from as lts
 use Rattle.search.proofs.added.Reads as added
-use Rattle.search.proofs.next_run.Reads as next-run
+use Rattle.runs.proofs.next_run.Reads as next-run
 use Rattle.search.proofs.size_start.Reads as size-start
 use Rattle.search.proofs.wide.Reads as wide
 use Rattle.sums.proofs.spread.add_part.Reads as add-part
