@@ -58,11 +58,15 @@ impl Bench {
     }
 
     // the last call again, with the port's time less what it takes to judge its tables; the closure gives the seconds of one judging
-    fn without_judging(&mut self, wanted: Option<f64>, mut judging: impl FnMut() -> f64) {
+    fn without_judging(&mut self, wanted: f64, mut judging: impl FnMut() -> f64) {
         let least = (0..self.batches).map(|_| judging()).fold(f64::MAX, f64::min);
         let last = self.races.last().unwrap();
-        let race =
-            Race { call: format!("{}, judging left out", last.call), wanted, original: last.original, port: last.port - least };
+        let race = Race {
+            call: format!("{}, judging left out", last.call),
+            wanted: Some(wanted),
+            original: last.original,
+            port: last.port - least,
+        };
         eprintln!("{}: {:.3e} s, {:.3e} s", race.call, race.original, race.port);
         self.races.push(race);
     }
@@ -123,9 +127,13 @@ fn drawn(rng: &mut Rng, pool: &[u8], k: usize) -> Vec<u8> {
 }
 
 impl Board {
+    fn is_large(&self) -> bool {
+        self.n == ENGLISH.len()
+    }
+
     // a ratio that is asked for on the large lattice alone
     fn on_large(&self, wanted: f64) -> Option<f64> {
-        (self.n == ENGLISH.len()).then_some(wanted)
+        self.is_large().then_some(wanted)
     }
 
     // a sheet with about so many words; leaves by a worth for each letter, less for repeats, with some noise; in thousandths of a point
@@ -331,8 +339,12 @@ fn maxima(bench: &mut Bench, b: &Board, ranks: &Ranks) {
             },
         );
         assert!(theirs == ours);
+        // on the small lattice a call takes less time than its judging varies by
+        if !b.is_large() {
+            continue;
+        }
         let wrong = if letters.is_empty() { (last_wrong(&ranks.add), vec![]) } else { (ranks.add.clone(), last_wrong(letters)) };
-        bench.without_judging(b.on_large(1.0), || {
+        bench.without_judging(1.0, || {
             let one = |_| assert_eq!(port::subset_max_transform(b.n, b.r, &wrong.0, &wrong.1, &b.leave, black_box(&mut ours)), 6);
             each(seconds(|| (0..calls).for_each(one)).0)
         });
@@ -373,15 +385,21 @@ fn sums(bench: &mut Bench, b: &Board, ranks: &Ranks, best: &[i32]) {
     drop([num, den, num2, den2]);
     let mut leave_max = vec![0; len];
     subset_max_transform(lat, &ranks.theirs[1], &b.leave, &mut leave_max);
-    let board = ApportionBoard { sheet: &b.sheet, leave: &b.leave, leave_max: &leave_max, unseen: &b.pool };
+    let few = drawn(&mut Rng(3), &b.pool, r + 3);
+    let few_name = format!("none, {} tiles unseen", r + 3);
     let (mut theirs, mut ours) = (calls::Sums::new(lat, 0.0, 0), calls::Sums::new(lat, 0.0, 0));
-    for (flags, name, wanted) in
-        [(0, "none", 2.0), (1, "zeta", 1.2), (3, "zeta and null_leave", 0.9), (5, "zeta and scatter", 0.9)]
-    {
+    for (flags, name, wanted, pool) in [
+        (0, "none", Some(2.0), &b.pool),
+        (1, "zeta", Some(1.2), &b.pool),
+        (3, "zeta and null_leave", Some(0.9), &b.pool),
+        (5, "zeta and scatter", Some(0.9), &b.pool),
+        (0, &few_name, None, &few),
+    ] {
         let mode = Mode::of(flags);
+        let board = ApportionBoard { sheet: &b.sheet, leave: &b.leave, leave_max: &leave_max, unseen: pool };
         bench.race(
             &format!("fused sums, {name}"),
-            b.on_large(wanted),
+            wanted.and_then(|w| b.on_large(w)),
             || {
                 timed(&mut || {
                     theirs.clear();
@@ -394,7 +412,7 @@ fn sums(bench: &mut Bench, b: &Board, ranks: &Ranks, best: &[i32]) {
                     let calls::Sums { num, den, ways, maxsheet } = &mut ours;
                     let (zeta, null_leave, scatter) = (mode.zeta, mode.null_leave, mode.scatter);
                     let (add, letters) = (&ranks.add, &ranks.letters);
-                    let (sheet, leave, pool) = (&b.sheet, &b.leave, &b.pool);
+                    let (sheet, leave) = (&b.sheet, &b.leave);
                     let (time, number) = seconds(|| {
                         port::apportion_fused(
                             n, r, add, letters, sheet, leave, &leave_max, pool, num, den, ways, maxsheet, zeta, null_leave,
@@ -422,12 +440,12 @@ fn draws(bench: &mut Bench, b: &Board, ranks: &Ranks, best: &[i32]) {
     );
     let theirs = dynamic_leave_value(&b.lat, &ranks.theirs[0], best, pool, 0, r);
     assert_eq!(port::dynamic_leave_value(n, r, &ranks.add, best, pool, 0, r), port::Equity { number: 0, value: theirs });
-    let wrong = last_wrong(&ranks.add);
-    let calls = (200_000 / wrong.len()).max(1);
-    bench.without_judging(b.on_large(1.0), || {
-        let one = |_| assert_eq!(port::dynamic_leave_value(n, r, &wrong, best, pool, 0, r).number, 6);
-        seconds(|| (0..calls).for_each(one)).0 / calls as f64
-    });
+    if b.is_large() {
+        let wrong = last_wrong(&ranks.add);
+        bench.without_judging(1.0, || {
+            seconds(|| assert_eq!(port::dynamic_leave_value(n, r, &wrong, best, pool, 0, r).number, 6)).0
+        });
+    }
 }
 
 fn blanks(bench: &mut Bench, b: &Board, rng: &mut Rng) {
