@@ -19,7 +19,7 @@ use Rattle.lattice.specs.Rank.{rank-from, rank-to, rank-injective, length-addTi
 use Rattle.lattice.specs.NextLeave.{lone, length-lone, tail-lone, Follows, follows, follows-size}
 use Rattle.lattice.specs.Step.{total-drop}
 use Rattle.runs.specs.Runs.{present, word-none, RunAt}
-use Rattle.runs.specs.Next.{Next, none-after, same-tails}
+use Rattle.order.specs.Next.{Next, none-after, same-tails}
 use Rattle.extensions.specs.Extensions.{stopOf, extension, extent, extension-rank, stop-low, stop-high, stop-tile, stop-end, total-after}
 use Rattle.extensions.specs.Racks.{Leave, Walking, Onward}
 

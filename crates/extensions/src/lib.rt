@@ -11,9 +11,9 @@ ghost use Rattle.runs.specs.Runs.{present};
 use lattice::Ranked;
 use lattice::rank_within;
 use lattice::unrank_within;
+use order::next_tally;
 use runs::letters_of;
 use runs::next_run;
-use runs::next_tally;
 
 // A leave's letters, where they end, and the rank of the first rack that extends it: that with one tile more of the last letter of all.
 pub struct Extended {

@@ -15,7 +15,7 @@ use Rattle.lattice.specs.Tally.{total, rankOf, addTile, addTile-is}
 use Rattle.lattice.specs.Rank.{Lex, here, next, Before, rank-to, rank-injective, rank-keeps-order, order-of-rank, length-addTile, total-addTile, rank-addTile}
 use Rattle.lattice.specs.Leaves.{leave-at}
 use Rattle.runs.specs.Runs.{Absent, RunAt}
-use Rattle.runs.specs.Next.{Next}
+use Rattle.order.specs.Next.{Next}
 use Rattle.maxima.specs.Judge.{OneLess, Smaller}
 
 -- ---- ranks keep their order when a tile is added

@@ -14,7 +14,7 @@ use Rattle.lattice.specs.Tally.{total, rankOf}
 use Rattle.lattice.specs.Tallies.{start-mono}
 use Rattle.lattice.specs.Lattice.{length-lattice-start}
 use Rattle.lattice.specs.Rank.{AtMost, rank-from, rank-below, rank-injective}
-use Rattle.runs.specs.Next.{Next}
+use Rattle.order.specs.Next.{Next}
 use Rattle.maxima.specs.Judge.{Decides, SubsetMax, Smaller, Local, local-max, max-local, Judging}
 use Rattle.maxima.specs.Places.{Places, places-next}
 

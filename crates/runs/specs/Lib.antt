@@ -1,3 +1,2 @@
--- The letters that a tally has, one run of tiles after another, and the tally that comes next in rank order.
+-- The letters that a tally has, one run of tiles after another.
 pub mod Runs
-pub mod Next

@@ -1,10 +1,10 @@
--- `runs::next_word` meets its contract: the shift loses no bit, and the last letter is there where a tile is left for it. Assumes nothing.
+-- `order::next_word` meets its contract: the shift loses no bit, and the last letter is there where a tile is left for it. Assumes nothing.
 use Prim.Native.Nat.{_-_}
 use borrow.Author.Needs.{needs}
 use native.Mathlib.Omega.{arith}
 use Rattle.runs.specs.Runs.{mark-none, mark-some}
-use Rattle.runs.proofs.next_word.Statement.{statement}
-use Rattle.runs.proofs.next_word.Tie as tie
+use Rattle.order.proofs.next_word.Statement.{statement}
+use Rattle.order.proofs.next_word.Tie as tie
 
 mul-word : tie.Need-mul-word
 mul-word c = search needs

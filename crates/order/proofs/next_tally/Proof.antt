@@ -1,14 +1,14 @@
--- `runs::next_tally` meets its contract. Each arm is one law: no letter is there, only the first one, or a later one. Assumes nothing.
+-- `order::next_tally` meets its contract. Each arm is one law: no letter is there, only the first one, or a later one. Assumes nothing.
 use mathlib.Core.Path.{sym, ap, _∙_}
 use Prim.Native.Nat.{ℕ, _-_}
 use native.Mathlib.Omega.{arith}
 use borrow.Author.Needs.{needs}
 use lib.ListN.{length-set}
 use lib.Seq.{take-length, getD-set-other}
 use Rattle.runs.specs.Runs.{present, ones-none}
-use Rattle.runs.proofs.Following.{at-most, none-next, first-next, later-next, later-letters, later-fits}
-use Rattle.runs.proofs.next_tally.Statement.{statement}
-use Rattle.runs.proofs.next_tally.Tie as tie
+use Rattle.order.proofs.Following.{at-most, none-next, first-next, later-next, later-letters, later-fits}
+use Rattle.order.proofs.next_tally.Statement.{statement}
+use Rattle.order.proofs.next_tally.Tie as tie
 
 sub-tally : tie.Need-sub-tally
 sub-tally c = search needs

@@ -11,8 +11,8 @@ use lib.Seq.{append-snoc, length-take-le, split-at, take-length, take-set-le, ta
 use Rattle.lattice.specs.NextLeave.{lone, length-lone, tail-lone, Follows, follows, follows-size}
 use Rattle.lattice.specs.Step.{total-drop}
 use Rattle.lattice.specs.Tally.{total, total-nil, total-cons}
-use Rattle.runs.specs.Next.{Next, none-after, same-tails}
+use Rattle.order.specs.Next.{Next, none-after, same-tails}
 use Rattle.runs.specs.Runs.{mark, present, present-snoc, present-suc, present-below, none-present, mark-some, RunAt}
 
 -- ---- tiles
 

@@ -1,0 +1,2 @@
+-- The tally that comes next in rank order.
+pub mod Next
