@@ -58,12 +58,12 @@ impl Bench {
     }
 
     // the last call again, with the port's time less what it takes to judge its tables; the closure gives the seconds of one judging
-    fn without_judging(&mut self, wanted: f64, mut judging: impl FnMut() -> f64) {
+    fn without_judging(&mut self, wanted: Option<f64>, mut judging: impl FnMut() -> f64) {
         let least = (0..self.batches).map(|_| judging()).fold(f64::MAX, f64::min);
         let last = self.races.last().unwrap();
         let race = Race {
             call: format!("{}, judging left out", last.call),
-            wanted: Some(wanted),
+            wanted,
             original: last.original,
             port: last.port - least,
         };
@@ -314,9 +314,9 @@ impl Ranks {
 }
 
 // A table whose last entry is wrong: a call over it is judged to the end, and does no more.
-fn last_wrong(table: &[u32]) -> Vec<u32> {
+fn last_wrong<T: Copy + std::ops::AddAssign + From<u8>>(table: &[T]) -> Vec<T> {
     let mut wrong = table.to_vec();
-    *wrong.last_mut().unwrap() += 1;
+    *wrong.last_mut().unwrap() += 1.into();
     wrong
 }
 
@@ -344,7 +344,7 @@ fn maxima(bench: &mut Bench, b: &Board, ranks: &Ranks) {
             continue;
         }
         let wrong = if letters.is_empty() { (last_wrong(&ranks.add), vec![]) } else { (ranks.add.clone(), last_wrong(letters)) };
-        bench.without_judging(1.0, || {
+        bench.without_judging(Some(1.0), || {
             let one = |_| assert_eq!(port::subset_max_transform(b.n, b.r, &wrong.0, &wrong.1, &b.leave, black_box(&mut ours)), 6);
             each(seconds(|| (0..calls).for_each(one)).0)
         });
@@ -397,6 +397,19 @@ fn sums(bench: &mut Bench, b: &Board, ranks: &Ranks, best: &[i32]) {
     ] {
         let mode = Mode::of(flags);
         let board = ApportionBoard { sheet: &b.sheet, leave: &b.leave, leave_max: &leave_max, unseen: pool };
+        let call = |ours: &mut calls::Sums, letters: &[u32], leave_max: &[i32], number: u8| {
+            ours.clear();
+            let calls::Sums { num, den, ways, maxsheet } = ours;
+            let (zeta, null_leave, scatter) = (mode.zeta, mode.null_leave, mode.scatter);
+            let (add, sheet, leave) = (&ranks.add, &b.sheet, &b.leave);
+            let (time, answer) = seconds(|| {
+                port::apportion_fused(
+                    n, r, add, letters, sheet, leave, leave_max, pool, num, den, ways, maxsheet, zeta, null_leave, scatter,
+                )
+            });
+            assert_eq!(answer, number);
+            time
+        };
         bench.race(
             &format!("fused sums, {name}"),
             wanted.and_then(|w| b.on_large(w)),
@@ -406,27 +419,40 @@ fn sums(bench: &mut Bench, b: &Board, ranks: &Ranks, best: &[i32]) {
                     seconds(|| calls::fused(lat, &ranks.theirs[1], &board, mode, &mut theirs)).0
                 })
             },
-            || {
-                timed(&mut || {
-                    ours.clear();
-                    let calls::Sums { num, den, ways, maxsheet } = &mut ours;
-                    let (zeta, null_leave, scatter) = (mode.zeta, mode.null_leave, mode.scatter);
-                    let (add, letters) = (&ranks.add, &ranks.letters);
-                    let (sheet, leave) = (&b.sheet, &b.leave);
-                    let (time, number) = seconds(|| {
-                        port::apportion_fused(
-                            n, r, add, letters, sheet, leave, &leave_max, pool, num, den, ways, maxsheet, zeta, null_leave,
-                            scatter,
-                        )
-                    });
-                    assert_eq!(number, 0);
-                    time
-                })
-            },
+            || timed(&mut || call(&mut ours, &ranks.letters, &leave_max, 0)),
         );
         assert!(same_bits(&theirs.num, &ours.num) && same_bits(&theirs.den, &ours.den));
         assert!(same_bits(&theirs.ways, &ours.ways) && theirs.maxsheet == ours.maxsheet);
+        if !b.is_large() || flags < 3 {
+            continue;
+        }
+        // refused at the last entry that is judged: of leave_max where scatter is in force, else of the letter table
+        let (letters, max, number) = if mode.scatter {
+            (ranks.letters.clone(), last_wrong(&leave_max), 7)
+        } else {
+            (last_wrong(&ranks.letters), leave_max.clone(), 6)
+        };
+        bench.without_judging(None, || call(&mut ours, &letters, &max, number));
     }
+    if b.is_large() {
+        scatter(bench);
+    }
+}
+
+// The scatter by itself, from calls that differ in it alone: one scatters where the other takes the sheet's subset maximum.
+fn scatter(bench: &mut Bench) {
+    let of = |call: &str| bench.races.iter().find(|r| r.call == format!("{call}, judging left out")).unwrap();
+    let (with, without) = (of("fused sums, zeta and scatter"), of("fused sums, zeta and null_leave"));
+    let subsets = of("subset maximum with the letter table");
+    let alone = |time: fn(&Race) -> f64| time(with) - time(without) + time(subsets);
+    let race = Race {
+        call: "scatter, by the difference of calls".to_string(),
+        wanted: Some(1.0),
+        original: alone(|r| r.original),
+        port: alone(|r| r.port),
+    };
+    eprintln!("{}: {:.3e} s, {:.3e} s", race.call, race.original, race.port);
+    bench.races.push(race);
 }
 
 fn draws(bench: &mut Bench, b: &Board, ranks: &Ranks, best: &[i32]) {
@@ -442,7 +468,7 @@ fn draws(bench: &mut Bench, b: &Board, ranks: &Ranks, best: &[i32]) {
     assert_eq!(port::dynamic_leave_value(n, r, &ranks.add, best, pool, 0, r), port::Equity { number: 0, value: theirs });
     if b.is_large() {
         let wrong = last_wrong(&ranks.add);
-        bench.without_judging(1.0, || {
+        bench.without_judging(Some(1.0), || {
             seconds(|| assert_eq!(port::dynamic_leave_value(n, r, &wrong, best, pool, 0, r).number, 6)).0
         });
     }
@@ -536,7 +562,9 @@ is by how much the original's slowest run passes its fastest. What the port give
     rt staticlib census && cd docs && cargo run --manifest-path ../compare/Cargo.toml -j1 --release --offline --bin bench -- RUNS > SPEED.md
 
 - The port tests its sizes, lengths and tables at each call, which the original does not. `Judging left out`: the port's time less that of the same call
-  over tables of which the last entry is wrong, which are judged to the end and refused.
+  over tables of which the last entry is wrong, which are judged to the end and refused; leave_max is such a table where scatter is in force.
+- The scatter has no call of its own: its time is that of the fused sums with zeta and scatter, less that with zeta and null_leave, plus the subset
+  maximum that the latter takes.
 - The fused sums have the letter table at hand. Their four settings are those that run different code; sums are made +0.0 before a call, which is not timed.
 - The original allocates its tables of ranks, and makes each on a thread of its own. `Made anew`: the port's side allocates too, so both pay for
   the first touch of the memory; `into a slice at hand` is the port's call alone, against the same time of the original.
