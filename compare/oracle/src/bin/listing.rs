@@ -121,10 +121,8 @@ fn main() {
     let count: usize = args[2].parse().unwrap();
     let folder = &args[3];
     std::fs::create_dir_all(folder).unwrap();
-    let mut cases: Vec<(String, String)> = vec![(
-        EXAMPLE.into(),
-        print(2, 2, &[1, 2], &[0, 2, 1, 10, 30, 5], &[0, 4, 7, 1, 3, -2]),
-    )];
+    let mut cases: Vec<(String, String)> =
+        vec![(EXAMPLE.into(), print(2, 2, &[1, 2], &[0, 2, 1, 10, 30, 5], &[0, 4, 7, 1, 3, -2]))];
     // sizes: judged before the rest is read
     for (s, no) in [
         ("", 2),

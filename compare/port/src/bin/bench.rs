@@ -61,12 +61,8 @@ impl Bench {
     fn without_judging(&mut self, wanted: Option<f64>, mut judging: impl FnMut() -> f64) {
         let least = (0..self.batches).map(|_| judging()).fold(f64::MAX, f64::min);
         let last = self.races.last().unwrap();
-        let race = Race {
-            call: format!("{}, judging left out", last.call),
-            wanted,
-            original: last.original,
-            port: last.port - least,
-        };
+        let race =
+            Race { call: format!("{}, judging left out", last.call), wanted, original: last.original, port: last.port - least };
         eprintln!("{}: {:.3e} s, {:.3e} s", race.call, race.original, race.port);
         self.races.push(race);
     }
