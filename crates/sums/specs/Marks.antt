@@ -2,7 +2,7 @@
 -- Assumes nothing.
 use mathlib.Core.Path.{_≡_, refl, sym, ap, ap₂, _∙_, subst}
 use mathlib.Core.Bool.{Bool, true, false, cond}
-use mathlib.Core.List.{List, [], _∷_, _++_, append-nil}
+use mathlib.Core.List.{List, [], _∷_, _++_}
 use Prim.Native.Nat.{ℕ, zero, suc, _+_, _-_, _^_, _≤_, _<_}
 use native.Mathlib.Nat.{zero-add, add-zero, add-comm, sub-self}
 use native.Mathlib.Omega.{arith}
@@ -19,8 +19,8 @@ use Rattle.laws.specs.Integer.{natAbs-add}
 use Rattle.laws.specs.Tests.{T-ext, T-both}
 use Rattle.whole.specs.Whole.{whole, Small}
 use Rattle.lattice.specs.Binomial.{binomial, binomial-self, binomial-one, symmetric, monotone}
-use Rattle.lattice.specs.Tally.{total, start, within, rankOf, parts, addTile, total-nil, total-cons, within-nil, rank-is, addTile-is}
-use Rattle.lattice.specs.Step.{step, stepsBefore, step-is, step-none, within-append, stepsBefore-append}
+use Rattle.lattice.specs.Tally.{total, start, within, rankOf, parts, addTile, total-nil, total-cons, rank-is, addTile-is}
+use Rattle.lattice.specs.Step.{step, stepsBefore, step-is, step-none, within-steps, stepsBefore-append}
 use Rattle.lattice.specs.Rank.{rank-injective, length-addTile}
 use Rattle.lattice.specs.Parts.{parts-within, part-length}
 use Rattle.runs.specs.Runs.{Absent, over}
@@ -89,9 +89,7 @@ rankOn-nil n m s w =
 -- with no letter after it
 rankOn-whole : (n : ℕ) (p : List ℕ) → rankOn n 0 0 0 p ≡ rankOf n p
 rankOn-whole n p =
-    let a : within p ≡ stepsBefore 0 0 p + 0 =
-    ap within (sym (append-nil p)) ∙ within-append p [] ∙ ap₂ _+_ (ap (λ (k : ℕ). stepsBefore 0 k p) total-nil) within-nil in
-    ap₂ _+_ (ap (start n) (add-zero (total p))) (sym a) ∙ sym (rank-is n p)
+    ap₂ _+_ (ap (start n) (add-zero (total p))) (add-zero (stepsBefore 0 0 p) ∙ sym (within-steps p)) ∙ sym (rank-is n p)
 
 -- ---- sums over the marks
 
