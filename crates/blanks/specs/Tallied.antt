@@ -5,7 +5,7 @@ use mathlib.Core.List.{List, [], _∷_}
 use Prim.Native.Nat.{ℕ, zero, suc, _+_, _-_, _*_, _^_, _≤_, _<_}
 use native.Mathlib.Nat.{not-suc-le-zero, lt-of-lt-of-le}
 use native.Mathlib.Numerals.{add-one}
-use native.Mathlib.Decide.{ℕ-discrete, decLt}
+use native.Mathlib.Decide.{ℕ-discrete, decLt, le-ind}
 use native.Mathlib.Omega.{arith}
 use lib.Dec.{eqb}
 use borrow.Author.Tests.{eq-eqb, ne-eqb}
@@ -42,6 +42,9 @@ counted (suc l) xs = counted l xs + count l xs
 pub counted-suc : (l : ℕ) (xs : List ℕ) → counted (suc l) xs ≡ counted l xs + count l xs
 unfolding counted
 counted-suc l xs = refl
+
+pub counted-mono : {i j : ℕ} (xs : List ℕ) → i ≤ j → counted i xs ≤ counted j xs
+counted-mono {i} {j} xs h = le-ind (λ (k : ℕ). counted i xs ≤ counted k xs) (omega arith) (λ (k : ℕ) (l : i ≤ k) e. rw counted-suc (omega arith)) j h
 
 counted-nil : (i : ℕ) → counted i [] ≡ 0
 unfolding counted count
