@@ -1,17 +1,18 @@
 -- Tiles in the order of their letters: how many are of letters below one, and the tally of the letters from 1 on. Assumes nothing.
-use mathlib.Core.Path.{_≡_, refl, sym, _∙_}
+use mathlib.Core.Path.{_≡_, refl, sym, ap, _∙_}
 use mathlib.Core.Bool.{Bool, true, false, cond}
 use mathlib.Core.List.{List, [], _∷_}
-use Prim.Native.Nat.{ℕ, zero, suc, _+_, _≤_, _<_}
-use native.Mathlib.Nat.{not-suc-le-zero}
+use Prim.Native.Nat.{ℕ, zero, suc, _+_, _-_, _*_, _^_, _≤_, _<_}
+use native.Mathlib.Nat.{not-suc-le-zero, lt-of-lt-of-le}
 use native.Mathlib.Numerals.{add-one}
-use native.Mathlib.Decide.{ℕ-discrete, decLt}
+use native.Mathlib.Decide.{ℕ-discrete, decLt, le-ind}
 use native.Mathlib.Omega.{arith}
 use lib.Dec.{eqb}
 use borrow.Author.Tests.{eq-eqb, ne-eqb}
-use lib.ListN.{length, getD, set, take, length-set}
+use lib.ListN.{length, getD, set, take, replicate, length-set}
+use lib.Pow.{pow-mono}
 use lib.Seq.{length-take-le, take-suc, take-length, getD-set-same, getD-set-other}
-use Rattle.runs.specs.Runs.{Absent, over}
+use Rattle.runs.specs.Runs.{mark, present, present-below, Absent, over}
 use Rattle.blanks.specs.Variants.{count}
 use Rattle.blanks.specs.Choices.{count-append}
 
@@ -41,6 +42,9 @@ counted (suc l) xs = counted l xs + count l xs
 pub counted-suc : (l : ℕ) (xs : List ℕ) → counted (suc l) xs ≡ counted l xs + count l xs
 unfolding counted
 counted-suc l xs = refl
+
+pub counted-mono : {i j : ℕ} (xs : List ℕ) → i ≤ j → counted i xs ≤ counted j xs
+counted-mono {i} {j} xs h = le-ind (λ (k : ℕ). counted i xs ≤ counted k xs) (omega arith) (λ (k : ℕ) (l : i ≤ k) e. rw counted-suc (omega arith)) j h
 
 counted-nil : (i : ℕ) → counted i [] ≡ 0
 unfolding counted count
@@ -121,6 +125,29 @@ counted-absent {xs} {tally} {j} t h l a = over tally (λ i. counted (suc i) xs �
   where
     one : (i : ℕ) → i < length tally → getD tally i 0 ≡ 0 → counted (suc i) xs ≡ counted (suc j) xs → counted (suc (suc i)) xs ≡ counted (suc j) xs
     one i k e r = let c = t .counts i k in rw (counted-suc (suc i) xs) (omega arith)
+
+-- one tile more of the letter at x, with p letters after it: its bit is new where it had none
+pub present-more : (t : List ℕ) (x p : ℕ) → p + suc x ≡ length t → present (set t x (getD t x 0 + 1)) ≡ present t + (1 - mark (getD t x 0)) * 2 ^ p
+unfolding present mark
+present-more [] x p e = absurd (omega arith)
+present-more (zero ∷ cs) zero p e =
+    let q : p ≡ length cs = omega arith in
+    rw q (omega arith)
+present-more (suc c ∷ cs) zero p e = rw (add-one (suc c)) (omega arith)
+present-more (c ∷ cs) (suc x) p e =
+    let r = present-more cs x p (omega arith) in
+    omega (arith, r, ap (λ (k : ℕ). mark c * 2 ^ k) (length-set cs x (getD cs x 0 + 1)))
+
+-- the word fits
+pub present-room : (t : List ℕ) (x p : ℕ) → p + suc x ≡ length t → length t ≤ 64 → present t + (1 - mark (getD t x 0)) * 2 ^ p < 2 ^ 64
+present-room t x p e h =
+    rw (← present-more t x p e)
+    (lt-of-lt-of-le (present-below (set t x (getD t x 0 + 1))) (pow-mono {j = 64} (rw length-set h)))
+
+pub present-zeros : (n : ℕ) → present (replicate n 0) ≡ 0
+unfolding present mark
+present-zeros zero = refl
+present-zeros (suc n) = omega (arith, present-zeros n)
 
 -- the tally of the first j tiles, as a loop makes it
 pub record Tallying (xs : List ℕ) (m j : ℕ) (tally : List ℕ) : Type 0 where
