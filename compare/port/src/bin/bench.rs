@@ -530,6 +530,11 @@ fn time(seconds: f64) -> String {
     }
 }
 
+// two digits after the point, or what is left of a ratio that they would make 0
+fn shown(ratio: f64) -> String {
+    if ratio < 0.01 { format!("{ratio:.1e}") } else { format!("{ratio:.2}") }
+}
+
 // a row for each call: the least times of all runs, the ratio in each run, and how far the original's own times lie apart
 fn table(runs: &[Vec<Race>]) {
     let columns: Vec<String> = (1..=runs.len()).map(|k| format!("run {k}")).collect();
@@ -540,7 +545,7 @@ fn table(runs: &[Vec<Race>]) {
         let least = |f: fn(&Race) -> f64| races.iter().map(|r| f(r)).fold(f64::MAX, f64::min);
         let most = races.iter().map(|r| r.original).fold(0.0, f64::max);
         let (original, port) = (least(|r| r.original), least(|r| r.port));
-        let ratios: Vec<String> = races.iter().map(|r| format!("{:.2}", r.original / r.port)).collect();
+        let ratios: Vec<String> = races.iter().map(|r| shown(r.original / r.port)).collect();
         let wanted = first.wanted.map_or(String::new(), |w| format!("{w}"));
         let noise = (most / original - 1.0) * 100.0;
         println!("| {} | {} | {} | {} | {wanted} | {noise:.0}% |", first.call, time(original), time(port), ratios.join(" | "));
@@ -583,8 +588,8 @@ fn chart(title: &str, runs: &[Vec<Race>]) -> String {
         let (from, y) = (middle + wide.min(0.0), 46.0 + line * k as f64);
         let colour = if ratio < 1.0 { "#c66" } else { "#6a6" };
         bars.push_str(&format!(
-            "<text x='{:.0}' y='{:.0}' text-anchor='end'>{}</text>\n<rect x='{from:.1}' y='{:.1}' width='{:.1}' height='13' fill='{colour}'/>\n<text x='{:.0}' y='{:.0}'>{ratio:.2}</text>\n",
-            label, y + 11.0, race.call, y, wide.abs(), middle + wide.max(0.0) + 5.0, y + 11.0,
+            "<text x='{:.0}' y='{:.0}' text-anchor='end'>{}</text>\n<rect x='{from:.1}' y='{:.1}' width='{:.1}' height='13' fill='{colour}'/>\n<text x='{:.0}' y='{:.0}'>{}</text>\n",
+            label, y + 11.0, race.call, y, wide.abs(), middle + wide.max(0.0) + 5.0, y + 11.0, shown(ratio),
         ));
     }
     let high = 60.0 + line * runs[0].len() as f64;
