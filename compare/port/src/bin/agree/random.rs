@@ -378,7 +378,7 @@ impl Agree {
                 5 if !den.is_empty() => self.dirty(&mut den),
                 6 if !add.is_empty() => damage(rng, &mut add),
                 7 => idx = [len, len + 1, usize::MAX, 1 << 32][rng.below(4) as usize],
-                8 => draw = [draw + 1, draw.wrapping_sub(1), r, usize::MAX][rng.below(4) as usize],
+                8 => draw = [draw.wrapping_add(1), draw.wrapping_sub(1), r, usize::MAX][rng.below(4) as usize],
                 _ => pool.fill(255),
             }
         }
