@@ -10,7 +10,7 @@ use native.Mathlib.Omega.{arith}
 use borrow.Author.Tests.{le-leb}
 use lib.Dec.{T}
 use lib.ListN.{length, getD, set, length-set}
-use Rattle.lattice.specs.Tally.{total, rankOf, start, total-cons, addTile-is, start-suc}
+use Rattle.lattice.specs.Tally.{total, rankOf, start, addTile-is, start-suc}
 use Rattle.lattice.specs.Rank.{total-addTile, rank-from, rank-to}
 use Rattle.lattice.specs.Answers.{served, rankWithin, TallyAt}
 use Rattle.lattice.specs.Served.{facts}
@@ -18,6 +18,7 @@ use Rattle.lattice.specs.Binomial.{binomial}
 use Rattle.lattice.specs.Tallies.{start-mono}
 use Rattle.lattice.specs.declared.Ranked.{Ranked}
 use Rattle.lattice.specs.declared.Ranked.the-variants.{At, Refused}
+use Rattle.lattice.proofs.Counts.{getD-le-total}
 use Rattle.extensions.specs.Extensions.{stopOf, extension}
 use Rattle.extensions.specs.Racks.{Leave}
 
@@ -53,11 +54,6 @@ taken-back (c ∷ cs) (suc i) x = ap {B = List ℕ} (λ l. c ∷ l) (taken-back 
 total-last : (t : List ℕ) → 0 < length t → total (extension t 0) ≡ suc (total t)
 total-last t h = total-addTile t (length t - 1 - 0) (omega arith)
 
-count-le : (t : List ℕ) (i : ℕ) → getD t i 0 ≤ total t
-count-le [] i = omega arith
-count-le (c ∷ cs) zero = omega (arith, total-cons c cs)
-count-le (c ∷ cs) (suc i) = omega (arith, total-cons c cs, count-le cs i)
-
 -- a rank among those of the leaves of one tile less than a rack
 module _ (n r rank : ℕ) (e : served n r ≡ true) (low : start n (r - 1) ≤ rank) (high : rank < start n r) where
   pub rank-inside : rank < binomial (r + n) n
@@ -91,7 +87,7 @@ module _ (n r rank : ℕ) (e : served n r ≡ true) (low : start n (r - 1) ≤ r
 -- the tile that is put on
 module _ {r : ℕ} (t : List ℕ) (e : served (length t) r ≡ true) (q : suc (total t) ≡ r) where
   pub added-fits : Fits w8 (getD t (length t - 1) 0 + 1)
-  added-fits = record { fits = omega (arith, count-le t (length t - 1), facts (length t) r e .tiles) }
+  added-fits = record { fits = omega (arith, getD-le-total t (length t - 1), facts (length t) r e .tiles) }
 
   abbrev put : List ℕ
   put = set t (length t - 1) (getD t (length t - 1) 0 + 1)

@@ -16,11 +16,6 @@ use Rattle.runs.specs.Runs.{mark, present, present-snoc, present-suc, present-b
 
 -- ---- tiles
 
-pub at-most : (x : List ℕ) (k : ℕ) → getD x k 0 ≤ total x
-at-most [] k = zero-le
-at-most (c ∷ cs) zero = rw total-cons (omega arith)
-at-most (c ∷ cs) (suc k) = rw total-cons (let h = at-most cs k in omega arith)
-
 -- as many tiles after the letters of s: as many from each of those on
 same-front : (s a b : List ℕ) (k : ℕ) → k ≤ length s → total a ≡ total b → total (drop k (s ++ a)) ≡ total (drop k (s ++ b))
 same-front [] a b zero h e = e

@@ -5,8 +5,9 @@ use native.Mathlib.Omega.{arith}
 use borrow.Author.Needs.{needs}
 use lib.ListN.{length-set}
 use lib.Seq.{take-length, getD-set-other}
+use Rattle.lattice.proofs.Counts.{getD-le-total}
 use Rattle.runs.specs.Runs.{present, ones-none}
-use Rattle.order.proofs.Following.{at-most, none-next, first-next, later-next, later-letters, later-fits}
+use Rattle.order.proofs.Following.{none-next, first-next, later-next, later-letters, later-fits}
 use Rattle.order.proofs.next_tally.Statement.{statement}
 use Rattle.order.proofs.next_tally.Tie as tie
 
@@ -42,7 +43,7 @@ slice-write-tally-2 c = search needs
 add-tally : tie.Need-add-tally
 add-tally c =
     let x = c .before .before .before .before .before .before .before .args .tally .now in
-    omega (arith, at-most x (c .before .before .before .next-run .result .stop - 1))
+    omega (arith, getD-le-total x (c .before .before .before .next-run .result .stop - 1))
 
 sub-tally-2 : tie.Need-sub-tally-2
 sub-tally-2 c = search needs
@@ -66,7 +67,7 @@ add-tally-2 : tie.Need-add-tally-2
 add-tally-2 c =
     let x = c .before .before .before .before .before .before .before .before .args .tally .now in
     let last : ℕ = c .before .before .before .before .next-run .result .stop - 1 in
-    omega (arith, getD-set-other x last (last - 1) 0 0 (λ e. omega arith), at-most x (last - 1))
+    omega (arith, getD-set-other x last (last - 1) 0 0 (λ e. omega arith), getD-le-total x (last - 1))
 
 sub-tally-3 : tie.Need-sub-tally-3
 sub-tally-3 c = search needs
