@@ -20,7 +20,7 @@ usual-requires c κs = omega arith
 returns : tie.Need-returns
 returns c =
     let a = c .before .args in
-    let e : (a .p * 8 + a .k) % 256 ≡ a .p * 8 + a .k = omega arith in
+    let e : (a .p * 8 + a .k) % 512 ≡ a .p * 8 + a .k = omega arith in
     c .usual .ensures ∙ rw e (usual-entry (a .p) (a .k) (c .before .pre .0) (c .before .pre .1)) ∙ mirrored (a .p) (a .k)
 
 pub usual-spec : {M : Type 1} → statement M
