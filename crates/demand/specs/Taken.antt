@@ -17,7 +17,7 @@ use Rattle.whole.specs.Whole.{whole}
 use Rattle.lattice.specs.Answers.{served}
 use Rattle.lattice.specs.Binomial.{binomial}
 use Rattle.lattice.specs.Leaves.{AddTable}
-use Rattle.lattice.specs.Tally.{total, tallies, lattice, start, within, rankOf, addTile, minus, parts, total-cons, total-nil}
+use Rattle.lattice.specs.Tally.{total, tallies, lattice, start, within, rankOf, addTile, minus, parts, total-one}
 use Rattle.lattice.specs.Parts.{Within-refl, parts-all}
 use Rattle.search.specs.Split.{Bounded, worth, bestFrom, bestOf, bestSplit}
 use Rattle.maxima.specs.Judge.{SubsetMax}
@@ -43,19 +43,16 @@ one-letter [] e = absurd (suc-ne-zero 0 (sym e))
 one-letter (c ∷ []) e = (c, refl)
 one-letter (c ∷ d ∷ m) e = absurd (let h : suc (suc (length m)) ≡ 1 = e in omega arith)
 
-its-total : (c : ℕ) → total (c ∷ []) ≡ c
-its-total c = total-cons c [] ∙ omega (arith, total-nil)
-
 the-leave : (m : List ℕ) → length m ≡ 1 → total m < 1 → m ≡ 0 ∷ []
 the-leave m e h =
     let o = one-letter m e in
-    let z : o .0 ≡ 0 = omega (arith, ap total (o .1), its-total (o .0)) in
+    let z : o .0 ≡ 0 = omega (arith, ap total (o .1), total-one (o .0)) in
     o .1 ∙ ap (λ (c : ℕ). c ∷ []) z
 
 the-rack : (m : List ℕ) → length m ≡ 1 → total m ≡ 1 → m ≡ 1 ∷ []
 the-rack m e h =
     let o = one-letter m e in
-    let z : o .0 ≡ 1 = omega (arith, ap total (o .1), its-total (o .0)) in
+    let z : o .0 ≡ 1 = omega (arith, ap total (o .1), total-one (o .0)) in
     o .1 ∙ ap (λ (c : ℕ). c ∷ []) z
 
 either : (m : List ℕ) → length m ≡ 1 → total m ≤ 1 → (m ≡ 0 ∷ []) ⊎ (m ≡ 1 ∷ [])
@@ -64,7 +61,7 @@ either m e h = by (one-letter m e)
     by : (c : ℕ) × (m ≡ c ∷ []) → (m ≡ 0 ∷ []) ⊎ (m ≡ 1 ∷ [])
     by (zero, q) = inl q
     by (suc zero, q) = inr q
-    by (suc (suc c), q) = absurd (omega (arith, ap total q, its-total (suc (suc c))))
+    by (suc (suc c), q) = absurd (omega (arith, ap total q, total-one (suc (suc c))))
 
 split-is : bestSplit (board .sheet) (board .leave) 1 (1 ∷ []) ≡ pos 5
 unfolding bestSplit bestOf bestFrom worth parts minus rankOf start within total binomial upto concatMap maxℤ

@@ -1,10 +1,9 @@
 -- `lattice::at_few` meets its contract. A start is an entry of the table, and that of no tiles is 0. Assumes nothing.
-use mathlib.Core.Path.{_≡_, _∙_, sym, ap}
-use Prim.Native.Nat.{suc, _-_}
+use mathlib.Core.Path.{_≡_, _∙_}
 use native.Mathlib.Nat.{zero-add}
 use native.Mathlib.Omega.{arith}
 use borrow.Author.Needs.{needs}
-use Rattle.lattice.specs.Tally.{start, start-zero, start-suc}
+use Rattle.lattice.specs.Tally.{start, start-zero, start-after}
 use Rattle.lattice.proofs.at_few.Statement.{statement}
 use Rattle.lattice.proofs.at_few.Tie as tie
 
@@ -24,8 +23,7 @@ few-requires c κs = search needs
 read : (c : tie.After-few) → c .few .result ≡ start (c .before .before .args .n) (c .before .before .args .tiles)
 read c =
     let a = c .before .before .args in
-    let e : suc (a .tiles - 1) ≡ a .tiles = omega arith in
-    c .few .ensures ∙ sym (start-suc (a .n) (a .tiles - 1)) ∙ ap (start (a .n)) e
+    c .few .ensures ∙ start-after (a .n) (a .tiles) (omega arith)
 
 add-t8 : tie.Need-add-t8
 add-t8 c = let e = read c in omega arith

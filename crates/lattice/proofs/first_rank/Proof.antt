@@ -3,8 +3,7 @@ use mathlib.Core.Path.{_∙_, sym, ap}
 use native.Mathlib.Omega.{arith}
 use borrow.Author.Needs.{needs}
 use borrow.Author.Tests.{ltb-true}
-use Rattle.lattice.specs.Tally.{start, start-zero}
-use Rattle.lattice.proofs.Filling.{start-after}
+use Rattle.lattice.specs.Tally.{start, start-zero, start-after}
 use Rattle.lattice.proofs.first_rank.Statement.{statement}
 use Rattle.lattice.proofs.first_rank.Tie as tie
 

@@ -1,9 +1,8 @@
 -- `search::size_start` meets its contract. A start is an entry of the table. Assumes nothing.
-use mathlib.Core.Path.{_≡_, _∙_, sym, ap}
-use Prim.Native.Nat.{suc, _-_}
+use mathlib.Core.Path.{_∙_, sym, ap}
 use native.Mathlib.Omega.{arith}
 use borrow.Author.Needs.{needs}
-use Rattle.lattice.specs.Tally.{start, start-zero, start-suc}
+use Rattle.lattice.specs.Tally.{start, start-zero, start-after}
 use Rattle.search.proofs.size_start.Statement.{statement}
 use Rattle.search.proofs.size_start.Tie as tie
 
@@ -18,10 +17,8 @@ choose-requires c κs = search needs
 
 returns-2 : tie.Need-returns-2
 returns-2 c =
-    let n = c .before .before .args .n in
-    let s = c .before .before .args .s in
-    let e : suc (s - 1) ≡ s = omega arith in
-    c .choose .ensures ∙ sym (start-suc n (s - 1)) ∙ ap (start n) e
+    let a = c .before .before .args in
+    c .choose .ensures ∙ start-after (a .n) (a .s) (omega arith)
 
 pub size-start-spec : {M : Type 1} → statement M
 size-start-spec = tie.close (tie.spec returns sub-choose choose-requires returns-2)
