@@ -3,7 +3,8 @@ use mathlib.Core.Path.{_≡_, _∙_}
 use Prim.Native.Nat.{_+_, _*_, _%_}
 use native.Mathlib.Omega.{arith}
 use borrow.Author.Needs.{needs}
-use Rattle.lattice.proofs.Pascal.{usual-entry}
+use Rattle.binomials_in_place.specs.Rows.{usual-rows}
+use Rattle.lattice.proofs.Pascal.{part-entry}
 use Rattle.lattice.proofs.Ranks.{mirrored}
 use Rattle.lattice.proofs.table.usual.Statement.{statement}
 use Rattle.lattice.proofs.table.usual.Tie as tie
@@ -21,7 +22,7 @@ returns : tie.Need-returns
 returns c =
     let a = c .before .args in
     let e : (a .p * 8 + a .k) % 512 ≡ a .p * 8 + a .k = omega arith in
-    c .usual .ensures ∙ rw e (usual-entry (a .p) (a .k) (c .before .pre .0) (c .before .pre .1)) ∙ mirrored (a .p) (a .k)
+    c .usual .ensures ∙ rw e (part-entry 8 usual-rows (omega arith) tt (a .p) (a .k) (omega arith) (c .before .pre .1) (omega arith)) ∙ mirrored (a .p) (a .k)
 
 pub usual-spec : {M : Type 1} → statement M
 usual-spec = tie.close (tie.spec mul-usual add-usual usual-requires returns)
