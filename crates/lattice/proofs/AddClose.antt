@@ -1,14 +1,14 @@
--- A row judged as a part of the table, and a rest of it without tiles. Assumes nothing.
+-- A row judged as a part of the table, and a rest of it whose tails are all the same. Assumes nothing.
 use mathlib.Core.Bool.{Bool}
 use mathlib.Core.Path.{_≡_, sym, _∙_}
 use mathlib.Core.List.{List}
 use Prim.Native.Nat.{ℕ, zero, suc, _+_, _-_, _≤_, _<_}
 use native.Mathlib.Nat.{zero-add, sub-zero, add-sub-cancel-left}
 use native.Mathlib.Omega.{arith}
-use lib.ListN.{length, getD, take, drop, length-drop}
-use lib.Seq.{getD-take, getD-drop, length-take-le}
+use lib.ListN.{length, getD, take, drop, replicate, length-drop, length-replicate, getD-replicate}
+use lib.Seq.{ext-getD, getD-take, getD-drop, length-take-le}
 use Rattle.lattice.specs.Binomial.{binomial-self}
-use Rattle.lattice.specs.AddRows.{choices, lowered, lowered-zero, lowered-suc, Row, Falling, RowRight, RowAt, RowBefore, DownFrom, Decides}
+use Rattle.lattice.specs.AddRows.{choices, lowered, lowered-zero, lowered-suc, Row, Level, RowRight, RowAt, RowBefore, DownFrom, Decides}
 
 -- the n entries from `at` on
 abbrev pub part : ℕ → ℕ → List ℕ → List ℕ
@@ -34,16 +34,15 @@ decides-part above rem at n table b e judged = record {
   no = λ x right. judged .no x (λ k h. part-at at n table k (omega arith) ∙ right k h);
 }
 
--- ---- letters without tiles
+-- ---- tails that are all the same
 
--- where there are no tiles from the first letter on, there are none from a later one
-none-on : (rem : List ℕ) → Falling rem → getD rem 0 0 ≡ 0 → (k : ℕ) → k < length rem → getD rem k 0 ≡ 0
-none-on rem falling z zero h = z
-none-on rem falling z (suc k) h =
-    let b : suc k - 1 ≡ k = omega arith in
-    let f = rw b at (falling (suc k) h) in
-    let i = none-on rem falling z k (omega arith) in
-    omega arith
+-- as a list
+pub level-list : (rem : List ℕ) (n : ℕ) → n ≡ length rem → Level 0 rem → replicate n (getD rem 0 0) ≡ rem
+level-list rem n e level =
+    let size = length-replicate n (getD rem 0 0) in
+    ext-getD 0 (replicate n (getD rem 0 0)) rem (size ∙ e) (λ k h. getD-replicate n k (getD rem 0 0) 0 (omega arith) ∙ sym (level k (omega arith) (omega arith)))
+
+-- ---- letters without tiles
 
 choices-none : (p : ℕ) → choices p 0 ≡ 1
 choices-none p = rw zero-add (binomial-self p)
@@ -59,11 +58,11 @@ pub record Bare (above : ℕ) (rem row : List ℕ) : Type 0 where
   pub fits : above - 1 < 4294967296
   pub decides : (b : Bool) → Decides b (DownFrom (above - 1) row) → Decides b (RowRight above rem row)
 
-pub bare : (above : ℕ) (rem row : List ℕ) → getD rem 0 0 ≡ 0 → Row above rem → length row ≡ length rem → 0 < length rem → Falling rem → Bare above rem row
-bare above rem row z known size some falling = record { room = room; fits = rw (steps 1 some) at (known .fits 0 some); decides = decides }
+pub bare : (above : ℕ) (rem row : List ℕ) → getD rem 0 0 ≡ 0 → Row above rem → length row ≡ length rem → 0 < length rem → Level 0 rem → Bare above rem row
+bare above rem row z known size some level = record { room = room; fits = rw (steps 1 some) at (known .fits 0 some); decides = decides }
   where
     none : (k : ℕ) → k < length rem → getD rem k 0 ≡ 0
-    none = none-on rem falling z
+    none k h = level k (omega arith) h ∙ z
 
     steps : (k : ℕ) → k ≤ length rem → lowered above rem k ≡ above - k
     steps = bare-steps above rem none

@@ -4,11 +4,11 @@ use mathlib.Core.Path.{_≡_, sym, ap, _∙_, subst}
 use mathlib.Core.List.{List}
 use Prim.Native.Nat.{ℕ, zero, suc, _+_, _-_, _*_, _≤_, _<_}
 use native.Mathlib.Decide.{decLt}
-use native.Mathlib.Nat.{zero-add, add-zero, add-suc, le-refl}
+use native.Mathlib.Nat.{zero-add, add-zero, add-suc}
 use native.Mathlib.Omega.{arith}
 use lib.ListN.{length, getD, take, drop, length-drop}
 use lib.Seq.{getD-take, getD-drop, length-take-le, take-all}
-use Rattle.lattice.specs.AddRows.{lowered, lowered-zero, lowered-suc, Row, Falling, RowRight, RowAt, RowBefore, RowPut, Lifted, OneMoreEach, Decides, LastOf, Stepped, RowSame}
+use Rattle.lattice.specs.AddRows.{lowered, lowered-zero, lowered-suc, Row, Level, RowRight, RowAt, RowBefore, RowPut, Lifted, OneMoreEach, Decides, LastOf, Stepped, RowSame}
 use Rattle.lattice.specs.AddRow.{top}
 
 -- ---- the first letters
@@ -60,11 +60,8 @@ row-drop above rem d row =
     place : (k : ℕ) → length (drop d rem) - 1 - k ≡ length rem - 1 - (d + k)
     place k = rw length-drop (omega arith)
 
-falling-drop : (rem : List ℕ) (d : ℕ) → Falling rem → Falling (drop d rem)
-falling-drop rem d falling zero h = le-refl _
-falling-drop rem d falling (suc l) h =
-    let e : d + suc l - 1 ≡ d + (suc l - 1) = omega arith in
-    rw (getD-drop d rem (suc l) 0, getD-drop d rem (suc l - 1) 0) (rw e at (falling (d + suc l) (omega (arith, length-drop d rem))))
+level-drop : (rem : List ℕ) (d : ℕ) → Level d rem → Level 0 (drop d rem)
+level-drop rem d level k lo hi = rw (getD-drop d rem k 0, getD-drop d rem 0 0, add-zero) (level (d + k) (omega arith) (omega (arith, length-drop d rem)))
 
 -- the first letters and the others are the row
 row-joined : (above : ℕ) (rem : List ℕ) (d : ℕ) (row : List ℕ) (b : Bool) → ((k : ℕ) → k < d → getD row k 0 ≡ lowered above rem (suc k))
@@ -129,8 +126,8 @@ module _ (above : ℕ) (rem before row : List ℕ) (known : Row above rem) (size
     pub rest-some : 0 < length (rest rem)
     rest-some = omega (arith, rest-length kept rem, prior .few)
 
-    pub rest-falling : Falling rem → Falling (rest rem)
-    rest-falling falling = subst Falling (sym (rest-of kept rem)) (falling-drop rem kept falling)
+    pub rest-level : Level kept rem → Level 0 (rest rem)
+    rest-level level = subst (Level 0) (sym (rest-of kept rem)) (level-drop rem kept level)
 
     pub rest-decides : (b : Bool) → Decides b (RowRight (getD row (kept - 1) 0) (rest rem) (rest row)) → Decides b (RowRight above rem row)
     rest-decides b judged = row-joined above rem kept row b follows-right (rw (stands, rest-of kept rem, rest-of kept row) at judged)

@@ -177,12 +177,12 @@ fn tables(bench: &mut Bench, b: &Board) {
     bench.race("add table, made anew", None, original, with_allocation);
     let original = bench.races.last().unwrap().original;
     let at_hand = || each(seconds(|| (0..calls).for_each(|_| filled(black_box(&mut add)))).0);
-    bench.race("add table, into a slice at hand", Some(30.0), || original, at_hand);
+    bench.race("add table, into a slice at hand", b.on_large(30.0), || original, at_hand);
     let (filling, wrong) = (bench.races.last().unwrap().port, last_wrong(&add));
     let mut letters = vec![0u32; rows * n];
     bench.race(
         "judging the add table, beside the port's filling of it",
-        Some(1.0),
+        b.on_large(1.0),
         || filling,
         || {
             each(

@@ -6,7 +6,7 @@ use native.Mathlib.Omega.{arith}
 use borrow.Author.Needs.{needs}
 use borrow.Author.Tests.{not-true, not-false}
 use lib.ListN.{length}
-use Rattle.lattice.proofs.AddNext.{front-length, front-room, right-follows, rest-row, rest-same, rest-some, rest-falling, rest-decides}
+use Rattle.lattice.proofs.AddNext.{front-length, front-room, right-follows, rest-row, rest-same, rest-some, rest-level, rest-decides}
 use Rattle.lattice.proofs.add.next_is_right.Statement.{statement}
 use Rattle.lattice.proofs.add.next_is_right.Tie as tie
 
@@ -76,7 +76,7 @@ rest-is-right-requires c κs =
     let a = start .args in
     let some : 0 < length (a .before .now) = (let ne = c .before .before .before .before .before .before .if1 .left in omega arith) in
     let more = c .before .before .before .before .follows-close .ensures .yes (not-false _ (c .before .before .before .if2 .left)) in
-    (start .pre .0, rest-row (a .above) (a .rem .now) (a .before .now) (a .row .now) (start .pre .1) (start .pre .2) (start .pre .3) some more, rest-same (a .above) (a .rem .now) (a .before .now) (a .row .now) (start .pre .1) (start .pre .2) (start .pre .3) some more, rest-some (a .above) (a .rem .now) (a .before .now) (a .row .now) (start .pre .1) (start .pre .2) (start .pre .3) some more, rest-falling (a .above) (a .rem .now) (a .before .now) (a .row .now) (start .pre .1) (start .pre .2) (start .pre .3) some more (start .pre .4))
+    (start .pre .0, rest-row (a .above) (a .rem .now) (a .before .now) (a .row .now) (start .pre .1) (start .pre .2) (start .pre .3) some more, rest-same (a .above) (a .rem .now) (a .before .now) (a .row .now) (start .pre .1) (start .pre .2) (start .pre .3) some more, rest-some (a .above) (a .rem .now) (a .before .now) (a .row .now) (start .pre .1) (start .pre .2) (start .pre .3) some more, rest-level (a .above) (a .rem .now) (a .before .now) (a .row .now) (start .pre .1) (start .pre .2) (start .pre .3) some more (start .pre .4))
 
 returns-3 : tie.Need-returns-3
 returns-3 c =

@@ -19,10 +19,10 @@ usual-requires : tie.Need-usual-requires
 usual-requires c κs = omega arith
 
 returns : tie.Need-returns
-returns c =
+returns c h =
     let a = c .before .args in
     let e : (a .p * 8 + a .k) % 512 ≡ a .p * 8 + a .k = omega arith in
-    c .usual .ensures ∙ rw e (part-entry 8 usual-rows (omega arith) tt (a .p) (a .k) (omega arith) (c .before .pre .1) (omega arith)) ∙ mirrored (a .p) (a .k)
+    c .usual .ensures ∙ rw e (part-entry 8 usual-rows (omega arith) tt (a .p) (a .k) (omega arith) h (omega arith)) ∙ mirrored (a .p) (a .k)
 
 pub usual-spec : {M : Type 1} → statement M
 usual-spec = tie.close (tie.spec mul-usual add-usual usual-requires returns)
