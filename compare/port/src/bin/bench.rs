@@ -210,12 +210,6 @@ fn tables(bench: &mut Bench, b: &Board) {
     );
 }
 
-// the original's, not put in place
-#[inline(never)]
-fn called(lat: &MultisetLattice, s: usize, items: &[(u8, u8)]) -> u32 {
-    lat.rank_sparse(s, items)
-}
-
 fn ranks(bench: &mut Bench, b: &Board, rng: &mut Rng) {
     let (n, r, lat) = (b.n, b.r, &b.lat);
     let racks: Vec<Vec<u8>> = (0..1000).map(|_| drawn(rng, &b.pool, r)).collect();
@@ -229,13 +223,6 @@ fn ranks(bench: &mut Bench, b: &Board, rng: &mut Rng) {
         Some(1.0),
         &both,
         |(x, _)| lat.rank_sparse(r, x) as u64,
-        |(_, (letters, counts))| port::rank_sparse(n, r, r, letters, counts).value as u64,
-    );
-    bench.race_short(
-        "rank_sparse of a rack, the original's a call too",
-        None,
-        &both,
-        |(x, _)| called(lat, r, x) as u64,
         |(_, (letters, counts))| port::rank_sparse(n, r, r, letters, counts).value as u64,
     );
     let tiles: Vec<Vec<u8>> = racks.iter().map(|t| oracle::model::tiles_of(t)).collect();
@@ -580,7 +567,6 @@ is by how much the original's slowest run passes its fastest. What the port give
 - The scatter has no call of its own: its time is that of the fused sums with zeta and scatter, less that with zeta and null_leave, plus the subset
   maximum that the latter takes.
 - The fused sums have the letter table at hand. Their four settings are those that run different code; sums are made +0.0 before a call, which is not timed.
-- A call of the port is a call into its archive; the original's code is put in place where it is called, also in its timing loop, but where a row says otherwise.
 - The original allocates its tables of ranks, and makes each on a thread of its own. `Made anew`: the port's side allocates too, so both pay for
   the first touch of the memory; `into a slice at hand` is the port's call alone, against the same time of the original.
 ";
