@@ -22,7 +22,7 @@ returns : tie.Need-returns
 returns c =
     let a = c .before .args in
     let e : (a .p * 4 + a .k) % 32 ≡ a .p * 4 + a .k = omega arith in
-    c .few .ensures ∙ rw e (part-entry 4 few-rows (omega arith) tt (a .p) (a .k) (omega arith) (c .before .pre .1) (omega arith)) ∙ mirrored (a .p) (a .k)
+    c .few .ensures ∙ rw e (part-entry (λ p. p) 4 few-rows (omega arith) tt (a .p) (a .k) (omega arith) (c .before .pre .1) (omega arith)) ∙ mirrored (a .p) (a .k)
 
 pub few-spec : {M : Type 1} → statement M
 few-spec = tie.close (tie.spec mul-few add-few few-requires returns)

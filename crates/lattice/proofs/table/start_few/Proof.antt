@@ -21,7 +21,7 @@ returns : tie.Need-returns
 returns c =
     let a = c .before .args in
     let e : (a .n * 4 + a .s) % 32 ≡ a .n * 4 + a .s = omega arith in
-    c .few-starts .ensures ∙ rw e (start-entry 4 few-start-rows (omega arith) tt (a .n) (a .s) (omega arith) (c .before .pre .1) (omega arith))
+    c .few-starts .ensures ∙ rw e (start-entry (λ n. n) 4 few-start-rows (omega arith) tt (a .n) (a .s) (omega arith) (c .before .pre .1) (omega arith))
 
 pub start-few-spec : {M : Type 1} → statement M
 start-few-spec = tie.close (tie.spec mul-few-starts add-few-starts few-starts-requires returns)
