@@ -2,15 +2,14 @@
 -- before it, and the word has the letters before. The measure is i. Assumes nothing.
 use mathlib.Core.Path.{_≡_, _∙_, sym, ap}
 use mathlib.Core.List.{List}
-use Prim.Native.Nat.{ℕ, suc, _+_, _-_, _≤_}
+use Prim.Native.Nat.{ℕ, suc, _-_, _≤_}
 use native.Mathlib.Omega.{arith}
 use lib.ListN.{length, take, drop}
 use lib.Seq.{drop-length, take-length}
-use borrow.Author.Tests.{lt-leb}
 use Rattle.runs.specs.Runs.{present, word-none}
 use Rattle.lattice.specs.Served.{Served, facts}
 use Rattle.lattice.specs.Tally.{total, within, total-nil, within-nil}
-use Rattle.lattice.proofs.Ranks.{Advance, advance, skipped, total-drop-le, within-small, whole-small, whole-rank}
+use Rattle.lattice.proofs.Ranks.{Advance, advance, skipped, total-drop-le, within-small, whole-small, whole-told, more-told}
 use Rattle.lattice.proofs.rank_runs.Statement.{statement}
 use Rattle.lattice.proofs.rank_runs.Tie as tie
 
@@ -77,7 +76,7 @@ returns c =
     let t : List ℕ = start f .args .tally .now in
     let a = turn f in
     let h = total-drop-le t (f .next-run .result .stop - 1) in
-    rw (lt-leb (total t) (start f .args .r) (omega arith))
+    more-told t (start f .args .r) (omega arith)
 
 sub-passed : tie.Need-sub-passed Inv-loop μ-loop
 sub-passed c = let s = sizes (start (c .before .before .before)) in omega arith
@@ -120,18 +119,22 @@ ended c =
     let skip = skipped t {j = 0} (omega arith) (word-none (inv .0) (inv .1) (c .loop-test .left)) in
     (inv .2 ∙ sym (skip .0), inv .3 ∙ sym (skip .1))
 
-at-place-requires : tie.Need-at-place-requires Inv-loop μ-loop
-at-place-requires c κs =
-    let k = c .before .before .before .before in
-    let s = sizes k in
-    let e = ended c in
-    (s .letters, omega (arith, c .before .loop .inv .4), whole-small (k .args .tally .now) (k .args .r) s (e .0) (e .1) (c .before .loop .inv .4))
+start-of-requires : tie.Need-start-of-requires Inv-loop μ-loop
+start-of-requires c κs =
+    let s = sizes (c .before .before .before .before) in
+    (s .letters, omega (arith, c .before .loop .inv .4, s .tiles))
+
+add-result : tie.Need-add-result Inv-loop μ-loop
+add-result c =
+    let k = c .before .before .before .before .before in
+    let e = ended (c .before) in
+    omega (arith, c .start-of .ensures, whole-small (k .args .tally .now) (k .args .r) (sizes k) (e .0) (e .1) (c .before .before .loop .inv .4))
 
 returns-2 : tie.Need-returns-2 Inv-loop μ-loop
 returns-2 c =
     let k = c .before .before .before .before .before in
     let e = ended (c .before) in
-    c .at-place .ensures ∙ whole-rank (k .args .tally .now) (k .args .r) (e .0) (e .1) (c .before .before .loop .inv .4)
+    rw (c .start-of .ensures) (whole-told (k .args .tally .now) (k .args .r) (sizes k) (e .0) (e .1) (c .before .before .loop .inv .4))
 
 pub rank-runs-spec : {M : Type 1} → statement M
 rank-runs-spec =
@@ -154,5 +157,6 @@ rank-runs-spec =
     add-tiles
     loop-less
     loop-again
-    at-place-requires
+    start-of-requires
+    add-result
     returns-2)
