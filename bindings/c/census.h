@@ -1,5 +1,5 @@
 /*
- * The verified census: its plain layer for C. Link libcensus.a, which `rt staticlib census` writes to target/staticlib.
+ * The verified census: its plain layer for C. Link libcensus.a, which `rt lib` in crates/census writes to crates/census/out.
  *
  * A lattice has n letters and racks of r tiles, 1 <= n <= 64, 1 <= r <= 15, and its length C(n + r, n) is at most 4,294,967,294. A tally
  * has a count for each letter. A rank is the address of a multiset of at most r tiles in every table of the lattice's length: fewer tiles

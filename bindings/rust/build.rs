@@ -1,4 +1,4 @@
-// Links the archive that `rt staticlib census` writes at the repository's root; CENSUS_LIB names another folder. Finds the original for the
+// Links the archive that `rt lib` in crates/census writes to its folder out; CENSUS_LIB names another folder. Finds the original for the
 // tests, as compare/oracle does; where it is not there, the test that needs it is ignored.
 use std::path::PathBuf;
 
@@ -18,12 +18,12 @@ fn folder(variable: &str, usual: &str) -> PathBuf {
 }
 
 fn archive() {
-    let folder = folder("CENSUS_LIB", "../../target/staticlib");
+    let folder = folder("CENSUS_LIB", "../../crates/census/out");
     let file = folder.join("libcensus.a");
     println!("cargo::rerun-if-changed={}", file.display());
     if !file.exists() {
         println!(
-            "cargo::error={} is not there: run `rt staticlib census` at the repository's root, or set CENSUS_LIB to the archive's folder",
+            "cargo::error={} is not there: run `rt lib` in crates/census, or set CENSUS_LIB to the archive's folder",
             file.display()
         );
     }

@@ -1,6 +1,6 @@
 //! The verified census under the names and types of the Rust that it replaces (`src/census.rs` of wolges, and `Pascal` of its `src/prob.rs`).
 //!
-//! Every call goes to `libcensus.a`, which `rt staticlib census` proves and writes. Where the original panicked, wrapped or read out of
+//! Every call goes to `libcensus.a`, which `rt lib` in crates/census proves and writes. Where the original panicked, wrapped or read out of
 //! bounds, the call is refused: one that gave `()` gives a `Result`, and one that gave a value gives none (`!0`) or [`UNPLAYABLE`].
 //! [`sys`] has the same calls with their numbers. A refused call writes nothing. Threads are taken and not used.
 //!

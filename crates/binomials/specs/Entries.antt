@@ -1,5 +1,5 @@
 -- The constants of the table of binomials, row after row: row p has C(p + k, k) for k from 0 to 16. The crate `lattice` shows that they are binomials. Assumes nothing.
-use Rattle.std.specs.Prelude.{◌≡◌, List, [], ◌∷◌, ◌++◌, ℕ, zero, suc, ◌≤◌, ◌<◌}
+use Rattle.std.specs.Prelude.{◌≡◌, List, [], ◌∷◌, ◌++◌, ℕ, zero, suc, ◌≤◌}
 use Rattle.std.proofs.Common.{arith}
 
 abbrev pub rows_0 : List ℕ

@@ -1,6 +1,8 @@
 // The constants of the table of binomials: C(p + k, k) at p * 17 + k, for p from 0 to 64 and k from 0 to 16. A match on a number becomes a table in
 // read-only memory, where an array would be built anew at each call. A function can have 512 arms: the first has the rows that racks of most languages
 // need, and the others are kept short, since the check of a match grows faster than its arms.
+#![tactic(auto)]
+
 ghost use Rattle.std.specs.Prelude.{◌≡◌, ◌<◌, get_or};
 ghost use Rattle.binomials.specs.Entries.{rows_0, rows_30, rows_42, rows_54, entries, Other};
 

@@ -1,5 +1,7 @@
 // Some constants of the table of binomials once more, C(p + k, k), for reads without a call: the compiler puts a short match where it is read, and a long one
 // where it is read at one place alone.
+#![tactic(auto)]
+
 ghost use Rattle.std.specs.Prelude.{◌≡◌, ◌<◌, get_or};
 ghost use Rattle.binomials_in_place.specs.Rows.{few_rows, few_start_rows, usual_rows, usual_start_rows};
 

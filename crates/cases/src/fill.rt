@@ -3,82 +3,48 @@ use crate::part::{counted, entry, is_counted};
 use text::Entry;
 
 pub fn bytes(s: &mut [u8], value: u8) {
-    let mut i = 0;
-    while i < s.len() {
-        s[i] = value;
-        i += 1;
-    }
+    s.fill(value);
 }
 
 pub fn entries(s: &mut [i32], value: i32) {
-    let mut i = 0;
-    while i < s.len() {
-        s[i] = value;
-        i += 1;
-    }
+    s.fill(value);
 }
 
 pub fn ranks(s: &mut [u32], value: u32) {
-    let mut i = 0;
-    while i < s.len() {
-        s[i] = value;
-        i += 1;
-    }
+    s.fill(value);
 }
 
 pub fn words(s: &mut [u64], value: u64) {
-    let mut i = 0;
-    while i < s.len() {
-        s[i] = value;
-        i += 1;
-    }
+    s.fill(value);
 }
 
 pub fn floats(s: &mut [f64], value: f64) {
-    let mut i = 0;
-    while i < s.len() {
-        s[i] = value;
-        i += 1;
-    }
+    s.fill(value);
 }
 
 // The start of a slice becomes another.
 pub fn copy_entries(from: &[i32], to: &mut [i32]) {
-    let mut i = 0;
-    while i < from.len() {
-        if to.len() <= i {
-            break;
-        }
-        let v = from[i];
-        to[i] = v;
-        i += 1;
+    for (x, v) in to.iter_mut().zip(from) {
+        *x = *v;
     }
 }
 
 pub fn copy_ranks(from: &[u32], to: &mut [u32]) {
-    let mut i = 0;
-    while i < from.len() {
-        if to.len() <= i {
-            break;
-        }
-        to[i] = from[i];
-        i += 1;
+    for (x, v) in to.iter_mut().zip(from) {
+        *x = *v;
     }
 }
 
 // Bytes from the numbers of a record; false where there is no room or a number is no byte.
 fn load_bytes(list: &[u64], s: &mut [u8]) -> bool {
-    let mut i = 0;
-    while i < list.len() {
+    for (i, v) in list.iter().enumerate() {
         if s.len() <= i {
             return false;
         }
-        let v = list[i];
-        if 255 < v {
+        if 255 < *v {
             return false;
         }
-        s[i] = v as u8;
-        i += 1;
+        s[i] = *v as u8;
     }
     true
 }
@@ -99,12 +65,10 @@ fn load_entry(v: u64, s: &mut [i32], i: usize) -> bool {
 
 // Entries from the numbers of a record; false where there is no room or a number is no i32.
 fn load_entries(list: &[u64], s: &mut [i32]) -> bool {
-    let mut i = 0;
-    while i < list.len() {
-        if !load_entry(list[i], s, i) {
+    for (i, v) in list.iter().enumerate() {
+        if !load_entry(*v, s, i) {
             return false;
         }
-        i += 1;
     }
     true
 }

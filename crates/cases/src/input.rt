@@ -1,9 +1,10 @@
-// The records of a list, read from standard input one at a time.
-use libc::STDIN_FILENO;
+// The records of a list, read one at a time.
+use std::io;
+use std::io::Read;
 use text::{Reader, Word};
 
 // How far a list is read.
-#[derive(Drop)]
+#[derive(Clone, Copy)]
 pub enum Stage {
     // Numbers of a record, or its head, are to come.
     Open,
@@ -16,7 +17,7 @@ pub enum Stage {
 }
 
 // The record that is being read: how many numbers it has, 0 before its head is read, and how many came.
-#[derive(Drop)]
+#[derive(Clone, Copy)]
 pub struct Record {
     pub stage: Stage,
     pub wanted: usize,
@@ -24,7 +25,7 @@ pub struct Record {
 }
 
 // A list that is being read: its record, the word that is being read, what is left of the bytes at hand, and whether the text is over.
-#[derive(Drop)]
+#[derive(Clone, Copy)]
 pub struct Source {
     pub record: Record,
     pub reader: Reader,
@@ -214,22 +215,31 @@ fn filled(source: Source, end: usize) -> Source {
 }
 
 // Reads once.
-fn refill(source: Source, buf: &mut [u8], numbers: &mut [u64]) -> Source {
-    let answer = libc::read(STDIN_FILENO, buf);
-    let got = io::count(answer, buf);
+fn refill<R: Read>(
+    from: &mut R,
+    source: Source,
+    buf: &mut [u8],
+    numbers: &mut [u64],
+) -> io::Result<Source> {
+    let got = from.read(buf)?;
     if got == 0 {
-        last(source, numbers)
+        Ok(last(source, numbers))
     } else {
-        filled(source, got)
+        Ok(filled(source, got))
     }
 }
 
 // Takes the bytes at hand, or reads some.
-fn turn(source: Source, buf: &mut [u8], numbers: &mut [u64]) -> Source {
+fn turn<R: Read>(
+    from: &mut R,
+    source: Source,
+    buf: &mut [u8],
+    numbers: &mut [u64],
+) -> io::Result<Source> {
     if source.at < source.end {
-        scan(source, buf, numbers)
+        Ok(scan(source, buf, numbers))
     } else {
-        refill(source, buf, numbers)
+        refill(from, source, buf, numbers)
     }
 }
 
@@ -279,16 +289,19 @@ pub fn opened(source: Source) -> Source {
 }
 
 // Reads up to the end of the next record: its numbers stand at the start of the slice, as far as there is room.
-// A proved loop has to end, so its turns are counted down from a number that no run uses up.
-pub fn next(source: Source, buf: &mut [u8], numbers: &mut [u64]) -> Source {
+// A proved loop has to end, so its turns are counted: no run uses so many up.
+pub fn next<R: Read>(
+    from: &mut R,
+    source: Source,
+    buf: &mut [u8],
+    numbers: &mut [u64],
+) -> io::Result<Source> {
     let mut now = source;
-    let mut left = u64::MAX;
-    while 0 < left {
+    for _ in 0..u64::MAX {
         if !goes_on(now) {
             break;
         }
-        now = turn(now, buf, numbers);
-        left -= 1;
+        now = turn(from, now, buf, numbers)?;
     }
-    now
+    Ok(now)
 }

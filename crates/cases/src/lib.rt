@@ -1,5 +1,7 @@
-// A list of comparison cases (its format: compare/README.md): its records read from standard input, and the parts of a record read,
+// A list of comparison cases (its format: compare/README.md): its records read one at a time, and the parts of a record read,
 // compared and handed on. A number below 0 is kept as its two's complement in 64 bits.
+#![tactic(auto)]
+
 pub mod fill;
 pub mod input;
 pub mod part;

@@ -18,7 +18,7 @@ fn is_u32(v: u64, x: u32) -> bool {
 }
 
 fn is_f64(v: u64, x: f64) -> bool {
-    if x != x { false } else { f64::to_bits(x) == v }
+    if x.is_nan() { false } else { x.to_bits() == v }
 }
 
 // A number of refusal and an answer.
@@ -52,12 +52,10 @@ pub fn bytes(rest: &[u64], s: &[u8]) -> bool {
     if rest.len() != s.len() {
         return false;
     }
-    let mut i = 0;
-    while i < s.len() {
-        if !is_u8(rest[i], s[i]) {
+    for (v, x) in rest.iter().zip(s) {
+        if !is_u8(*v, *x) {
             return false;
         }
-        i += 1;
     }
     true
 }
@@ -66,12 +64,10 @@ pub fn entries(rest: &[u64], s: &[i32]) -> bool {
     if rest.len() != s.len() {
         return false;
     }
-    let mut i = 0;
-    while i < s.len() {
-        if !is_i32(rest[i], s[i]) {
+    for (v, x) in rest.iter().zip(s) {
+        if !is_i32(*v, *x) {
             return false;
         }
-        i += 1;
     }
     true
 }
@@ -80,40 +76,26 @@ pub fn ranks(rest: &[u64], s: &[u32]) -> bool {
     if rest.len() != s.len() {
         return false;
     }
-    let mut i = 0;
-    while i < s.len() {
-        if !is_u32(rest[i], s[i]) {
+    for (v, x) in rest.iter().zip(s) {
+        if !is_u32(*v, *x) {
             return false;
         }
-        i += 1;
     }
     true
 }
 
 pub fn words(rest: &[u64], s: &[u64]) -> bool {
-    if rest.len() != s.len() {
-        return false;
-    }
-    let mut i = 0;
-    while i < s.len() {
-        if rest[i] != s[i] {
-            return false;
-        }
-        i += 1;
-    }
-    true
+    rest == s
 }
 
 pub fn floats(rest: &[u64], s: &[f64]) -> bool {
     if rest.len() != s.len() {
         return false;
     }
-    let mut i = 0;
-    while i < s.len() {
-        if !is_f64(rest[i], s[i]) {
+    for (v, x) in rest.iter().zip(s) {
+        if !is_f64(*v, *x) {
             return false;
         }
-        i += 1;
     }
     true
 }

@@ -15,7 +15,7 @@ use whole::UNPLAYABLE;
 
 // A best with its number: UNPLAYABLE where refused.
 #[repr(C)]
-#[derive(Drop)]
+#[derive(Clone, Copy)]
 pub struct Equity {
     pub number: u8,
     pub value: i32,
@@ -23,7 +23,7 @@ pub struct Equity {
 
 // The best leave's value and rank with their number: UNPLAYABLE and none where refused.
 #[repr(C)]
-#[derive(Drop)]
+#[derive(Clone, Copy)]
 pub struct Leave {
     pub number: u8,
     pub value: i32,
@@ -32,7 +32,7 @@ pub struct Leave {
 
 // A best with its number and the kind of the move: 0 no move, 1 a word, 2 an exchange. UNPLAYABLE and no move where refused.
 #[repr(C)]
-#[derive(Drop)]
+#[derive(Clone, Copy)]
 pub struct Play {
     pub number: u8,
     pub kind: u8,

@@ -12,7 +12,7 @@ use lattice::{Lattice, Ranked};
 
 // A rank, a size or a start with its number: none where refused.
 #[repr(C)]
-#[derive(Drop)]
+#[derive(Clone, Copy)]
 pub struct Rank {
     pub number: u8,
     pub value: u32,

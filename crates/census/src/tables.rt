@@ -6,7 +6,7 @@ use lattice::Lattice;
 
 // A part of a lent slice: where it starts, and how many entries it has.
 #[repr(C)]
-#[derive(Drop)]
+#[derive(Clone, Copy)]
 pub struct Part {
     pub start: usize,
     pub len: usize,

@@ -1,6 +1,4 @@
 -- The sums of every road, as one claim over all boards, roads and leaves.
 pub mod Demand
-pub mod HandBest
 pub mod Gives
-pub mod Theorem
 pub mod Taken

@@ -21,7 +21,7 @@ use Rattle.whole.proofs.Bounds.{Spread, spread_zero, spread_add, spread_mul}
 use Rattle.lattice.specs.Binomial.{binomial, binomial_zero, positive}
 use Rattle.lattice.specs.Tally.{total, total_nil, total_cons}
 use Rattle.lattice.specs.Tallies.{tallies_all}
-use Rattle.hands.specs.Hands.{ways_le}
+use Rattle.hands.proofs.Hands.{ways_le}
 use Rattle.sums.proofs.Running.{running as turn}
 use Rattle.sums.specs.Ascend.{ascend, running_small}
 use Rattle.draws.specs.declared.walk.Totals.{Totals}

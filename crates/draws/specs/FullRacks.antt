@@ -12,7 +12,8 @@ use Rattle.lattice.specs.Tallies.{Fits}
 use Rattle.lattice.specs.Lattice.{length_lattice}
 use Rattle.lattice.specs.Rank.{at_fits}
 use Rattle.lattice.specs.Parts.{length_plus, total_plus}
-use Rattle.hands.specs.Hands.{Tile, hands, rack_of, ways, sum_hands-ℕ, sum_hands-ℤ, hands_count, tallies_every}
+use Rattle.hands.specs.Hands.{Tile, hands, rack_of, ways, hands_count, tallies_every}
+use Rattle.hands.proofs.Hands.{sum_hands-ℕ, sum_hands-ℤ}
 use Rattle.hands.specs.Partings.{length_rack}
 use Rattle.draws.specs.Draws.{rack_after, best_after, draw_count, draw_sum, Fills}
 

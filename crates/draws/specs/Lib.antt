@@ -4,5 +4,4 @@ pub mod Walk
 pub mod Racks
 pub mod Exact
 pub mod Walking
-pub mod Answer
 pub mod Leave

@@ -15,7 +15,8 @@ use Rattle.lattice.specs.Tallies.{tallies_empty, tallies_too_many}
 use Rattle.lattice.specs.Step.{total_append}
 use Rattle.lattice.specs.Leaves.{AddTable}
 use Rattle.lattice.specs.Tables.{up}
-use Rattle.hands.specs.Hands.{hands, rack_of, ways, sum_tallies, sum_hands, tallies_every}
+use Rattle.hands.specs.Hands.{hands, rack_of, ways, sum_tallies, tallies_every}
+use Rattle.hands.proofs.Hands.{sum_hands}
 use Rattle.draws.specs.Walk.{climb, product, met, met_cons, met_end, met_short}
 
 -- the rank with the tiles of cs more, of the letters from t on

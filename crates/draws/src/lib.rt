@@ -1,4 +1,6 @@
 // Draws: the mean best of the racks that a kept leave and tiles drawn from a pool make.
+#![tactic(auto)]
+
 ghost use Rattle.std.specs.Prelude.{◌≡◌, true, ℕ, ◌+◌, length};
 ghost use Rattle.lattice.specs.Binomial.{binomial};
 ghost use Rattle.lattice.specs.Answers.{served};
@@ -14,7 +16,7 @@ use whole::cut;
 pub mod walk;
 
 // The mean; or that there is no draw; or the number of the refusal.
-#[derive(Drop)]
+#[derive(Clone, Copy)]
 pub enum Drawn {
     Mean(i32),
     NoDraw,

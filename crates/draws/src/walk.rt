@@ -11,7 +11,7 @@ use search::smaller;
 use sums::weight::{held, larger};
 
 // Of the racks met so far: the sum of ways times bests, the sum of ways, and the largest size of a best.
-#[derive(Drop)]
+#[derive(Clone, Copy)]
 pub struct Totals {
     pub num: f64,
     pub den: f64,

@@ -1,13 +1,12 @@
 -- The tallies that extend a tally by one tile of its last letter or of a later one, and their ranks, which follow each other. Assumes nothing.
-use Rattle.std.specs.Prelude.{◌≡◌, refl, Bool, true, false, cond, List, [], ◌∷◌, ◌++◌, map, ◌⊎◌, ℕ, zero, suc, ◌+◌, ◌-◌, ◌≤◌, ◌<◌, T, eqb, length, get_or, drop}
-use Rattle.std.proofs.Common.{sym, ap, ap₂, ◌∙◌, inl, inr, not-suc-le-zero, le_of_suc-le-suc, add-zero, arith, eqb→eq, length-drop}
+use Rattle.std.specs.Prelude.{◌≡◌, refl, Bool, true, false, cond, List, [], ◌∷◌, map, ℕ, zero, suc, ◌+◌, ◌-◌, ◌≤◌, ◌<◌, T, eqb, length, get_or, drop}
+use Rattle.std.proofs.Common.{sym, ap, ◌∙◌, not-suc-le-zero, le_of_suc-le-suc, add-zero, arith, eqb→eq}
 use Rattle.std.proofs.Math.Decide.{dec_lt}
 use Rattle.std.proofs.Math.Numerals.{unary_clauses}
-use Rattle.std.proofs.Math.Dec.{eqb_refl}
 use Rattle.laws.specs.Lists.{upto}
-use Rattle.lattice.specs.Tally.{total, start, within, rank_of, add_tile, total_nil, total_cons, rank_is}
+use Rattle.lattice.specs.Tally.{total, rank_of, add_tile, total_nil, total_cons, rank_is}
 use Rattle.lattice.specs.Tallies.{count, count_zero, count_empty}
-use Rattle.lattice.specs.Rank.{length_add_tile, total_add_tile}
+use Rattle.lattice.specs.Rank.{total_add_tile}
 use Rattle.lattice.specs.AddRow.{more_next}
 
 -- the letters up to the last one that a tally has, and at least one

@@ -18,7 +18,7 @@ use Rattle.lattice.specs.NextLeave.{lone, length_lone, tail_lone, Follows, follo
 use Rattle.lattice.specs.Step.{total_drop}
 use Rattle.runs.specs.Runs.{present, word_none, RunAt}
 use Rattle.order.specs.Next.{Next, none_after, same_tails}
-use Rattle.extensions.specs.Extensions.{stop_of, extension, extent, extension_rank, stop_low, stop_high, stop_tile, stop_end, total_after}
+use Rattle.extensions.specs.Extensions.{stop_of, extension, extension_rank, stop_high, stop_tile, stop_end, total_after}
 use Rattle.extensions.specs.Racks.{Leave, Walking, Onward}
 
 -- ---- the tiles from a letter on, with one tile more

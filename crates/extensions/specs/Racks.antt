@@ -1,10 +1,10 @@
 -- Every rack extends exactly one leave of one tile less: the racks of a lattice as the extensions of its leaves. Assumes nothing.
 use Rattle.std.specs.Prelude.{◌≡◌, refl, Bool, true, false, cond, ◌⊎◌, ℕ, zero, suc, ◌+◌, ◌-◌, ◌^◌, ◌≤◌, ◌<◌, T, eqb, length, replicate}
-use Rattle.std.proofs.Common.{sym, ap, ap₂, ◌∙◌, subst, inl, inr, ⊎_elim, not-suc-le-zero, arith, eqb→eq}
+use Rattle.std.proofs.Common.{sym, ap, ap₂, ◌∙◌, subst, inl, inr, not-suc-le-zero, arith, eqb→eq}
 use mathlib.Core.List.Memᴰ
-use mathlib.Core.List.{List, [], ◌∷◌, ◌++◌, map, append-nil, Memᴰ}
+use mathlib.Core.List.{List, [], ◌∷◌, ◌++◌, map, Memᴰ}
 use Rattle.laws.specs.Lists.{upto, concat_map, upto_suc, of_upto, map_append, map_map, map_concat_map, concat_map_map, concat_map_append, concat_map_one, of_concat_map}
-use Rattle.lattice.specs.Tally.{total, tallies, start, rank_of, add_tile, add_tile_is, total_cons, total_nil}
+use Rattle.lattice.specs.Tally.{total, tallies, start, rank_of, add_tile, total_cons, total_nil}
 use Rattle.lattice.specs.Tallies.{Fits, skip, bump, tallies_empty, tallies_zero, tallies_suc, tallies_too_many, tallies_fit, tallies_all}
 use Rattle.extensions.specs.Extensions.{stop_of, extension, extent, extensions, stop_cons, stop_first, stop_low}
 

@@ -1,4 +1,6 @@
 // The racks that extend a leave by one tile, no earlier than its last letter: they stand side by side in rank order, and each rack is one of them.
+#![tactic(auto)]
+
 ghost use Rattle.std.specs.Prelude.{◌≡◌, true, suc, ◌-◌, ◌≤◌, ◌<◌, length};
 ghost use Rattle.lattice.specs.Answers.{served};
 ghost use Rattle.lattice.specs.Tally.{total, start, rank_of};
@@ -11,7 +13,7 @@ use order::next_tally;
 use runs::{letters_of, next_run};
 
 // A leave's letters, where they end, and the rank of the first rack that extends it: that with one tile more of the last letter of all.
-#[derive(Drop)]
+#[derive(Clone, Copy)]
 pub struct Extended {
     pub word: u64,
     pub stop: usize,

@@ -1,5 +1,5 @@
 -- What a call of apportion_fused answers, for every input, and what it leaves in each slice. Document 01's sentences stand in quotes. Assumes nothing.
-use Rattle.std.specs.Prelude.{ℕ, ◌+◌, ◌-◌, ◌*◌, ◌^◌, ◌≤◌, max, Bool, true, false, cond, not, ◌&&◌, List, [], ◌∷◌, ◌⊎◌, ◌≡◌, Float, ℤ, pos, nat_abs, length, get_or, ◌≤ℤ◌}
+use Rattle.std.specs.Prelude.{ℕ, ◌+◌, ◌-◌, ◌*◌, ◌^◌, ◌≤◌, max, Bool, true, false, cond, not, ◌&&◌, List, ◌⊎◌, ◌≡◌, Float, ℤ, pos, length, get_or, ◌≤ℤ◌}
 use Rattle.std.specs.Float.{nan}
 use Rattle.std.proofs.Common.{arith}
 use Rattle.laws.specs.Integer.{at_ℤ}

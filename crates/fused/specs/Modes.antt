@@ -1,20 +1,20 @@
 -- The best that a mode takes for a full rack: which it is, how large it is, and that maxsheet has it. Assumes nothing.
-use Prim.Native.Nat.{ℕ, zero, suc, ◌+◌, ◌^◌, ◌≤◌, ◌<◌}
+use Prim.Native.Nat.{ℕ, ◌+◌, ◌^◌, ◌≤◌, ◌<◌}
 use Rattle.std.specs.Prelude.{Bool, true, false, not, ◌&&◌, ◌≡◌, refl, T, pos, ◌+ℤ◌, ◌≤ℤ◌}
-use mathlib.Core.List.{List, [], ◌∷◌}
+use mathlib.Core.List.{List}
 use Rattle.std.proofs.Common.{sym, ap, ◌∙◌, subst, le_of_eq, arith}
 use Rattle.std.proofs.Math.Path.{fun_ext}
 use Rattle.std.proofs.Math.IntN.{ℤ, nat_abs, +ℤ_idr}
 use Rattle.std.proofs.Math.Nat.{le_trans}
 use Rattle.laws.specs.Every.{every_at}
 use Rattle.laws.specs.Greatest.{GreatestOver}
-use Rattle.laws.specs.Integer.{at_ℤ, ≤ℤ-antisym, nat_abs-+ℤ}
+use Rattle.laws.specs.Integer.{at_ℤ, ≤ℤ-antisym}
 use Rattle.lattice.specs.Tally.{rank_of, minus, parts}
 use Rattle.lattice.specs.Tallies.{Fits}
 use Rattle.lattice.specs.Parts.{Within-refl, parts_all}
 use Rattle.hands.specs.Hands.{holds}
 use Rattle.search.specs.Split.{Bounded, worth, best_of, best_split}
-use Rattle.search.specs.Best.{best_of_attained, best_of_bound, best_attained}
+use Rattle.search.specs.Best.{best_of_attained, best_of_bound}
 use Rattle.scatter.specs.Scatter.{scatter_at}
 use Rattle.scatter.specs.BestSplit.{scatter_best}
 use Rattle.sums.specs.Weight.{largest}

@@ -29,7 +29,8 @@ use Rattle.lattice.specs.Served.{facts, length_small}
 use Rattle.lattice.specs.Leaves.{leave_rank}
 use Rattle.extensions.specs.Extensions.{stop_of, extension, extent, extensions, stop_low, stop_high, stop_none, extension_rank}
 use Rattle.extensions.specs.Racks.{Leave, racks_extend}
-use Rattle.hands.specs.Hands.{holds, ways, hand_sum, hand_sum_cond, ways_total, ways_drawable, cond_le}
+use Rattle.hands.specs.Hands.{holds, ways, hand_sum, cond_le}
+use Rattle.hands.proofs.Hands.{hand_sum_cond, ways_total, ways_drawable}
 use Rattle.search.specs.Counts.{at_most}
 use Rattle.runs.specs.Runs.{Absent}
 use Rattle.sums.specs.Spread.{number_at, add_each, extended, Spreads, length_add_each}

@@ -3,7 +3,7 @@ ghost use Rattle.std.specs.Prelude.{◌≡◌};
 ghost use Rattle.fused.specs.Answer.{sheet_alone, in_force};
 
 // Whether the sums are folded letter by letter, whether the tiles kept are worth nothing, and whether words are scattered.
-#[derive(Drop)]
+#[derive(Clone, Copy)]
 pub struct Mode {
     pub zeta: bool,
     pub null_leave: bool,

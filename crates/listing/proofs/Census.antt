@@ -13,7 +13,8 @@ use Rattle.lattice.specs.Lattice.{length_lattice_start}
 use Rattle.lattice.specs.Rank.{rank_at, at_fits}
 use Rattle.lattice.specs.Served.{Served, facts}
 use Rattle.lattice.specs.Numbers.{len_number}
-use Rattle.hands.specs.Hands.{holds, ways, hand_sum, hand_sum_cond}
+use Rattle.hands.specs.Hands.{holds, ways, hand_sum}
+use Rattle.hands.proofs.Hands.{hand_sum_cond}
 use Rattle.search.specs.Split.{best_split}
 use Rattle.search.specs.Refusals.{table_number}
 use Rattle.search.specs.Answers.{Tabled}

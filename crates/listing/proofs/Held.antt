@@ -21,6 +21,7 @@ clear_zeros k i l = at k i (omega (arith, length-replicate k (of_bits binary64 0
     at : (k i : ℕ) → i < k → get_or (replicate k (of_bits binary64 0)) i nan ≡ whole (pos 0)
     at (suc k) zero h = zero_literal
     at (suc k) (suc i) h = at k i (le_of_suc-le-suc h)
+    at zero _ h = elim h [ ]
 
 module _ {h : Held} {b : Board} (held : BoardHeld h b) where
   abbrev half : ℕ

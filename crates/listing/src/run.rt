@@ -1,14 +1,16 @@
 // From a text to its listing.
-ghost use Rattle.std.specs.Prelude.{◌≡◌, ℕ, ◌<◌, ◌≤◌, List, length};
+ghost use Rattle.std.specs.Prelude.{◌≡◌, ℕ, ◌<◌, ◌≤◌, List, length, OnOk};
 ghost use Rattle.sums.specs.Weight.{Clear};
 ghost use Rattle.text.specs.Text.{Written};
 ghost use Rattle.listing.specs.Take.{held};
-ghost use Rattle.listing.specs.Listing.{Asked, Listed, Replied, Told, board_given, board_printed, page_room};
+ghost use Rattle.listing.specs.Listing.{Asked, Listed, Replied, Told, board_given, board_printed, page_room, Printed};
 
 use crate::Form;
 use crate::board::{census, leaves_of};
 use crate::input::read_all;
 use crate::page::{put_page, put_refusal};
+use std::io;
+use std::io::{Read, Write};
 
 // 64 pool counts.
 fn counts() -> [u8; 64]
@@ -108,14 +110,25 @@ pub fn list(text: &[u8], out: &mut [u8]) -> usize
     respond(f, &pool, &values, out)
 }
 
-// Reads standard input to its end, and puts its listing.
-pub fn reply(out: &mut [u8]) -> usize
+// Reads a text to its end, and puts its listing: where that ends, and how the last read ended.
+pub fn reply<R: Read>(reader: &mut R, out: &mut [u8]) -> (usize, io::Result<()>)
     requires { page_room ≤ length out.old }
-    ensures { Replied out.old out.new result }
+    ensures { Replied (R.remaining reader.old) (R.remaining reader.new) result.1 out.old out.new result.0 }
 {
-    let mut buf = io::buffer();
+    let mut buf = [0; 4096];
     let mut pool = counts();
     let mut values = entries();
-    let f = read_all(&mut buf, &mut pool, &mut values);
-    respond(f, &pool, &values, out)
+    let (f, read) = read_all(reader, &mut buf, &mut pool, &mut values);
+    (respond(f, &pool, &values, out), read)
+}
+
+// Reads a text to its end, and writes its listing. Where a read fails, the listing of what was read before is written, and then the error is given.
+pub fn print<R: Read, W: Write>(reader: &mut R, writer: &mut W) -> io::Result<()>
+    ensures { OnOk result (Printed (R.remaining reader.old) (R.remaining reader.new) result
+        (W.contents writer.old) (W.contents writer.new)) }
+{
+    let mut out = [0; 65536];
+    let (end, read) = reply(reader, &mut out);
+    writer.write_all(&out[..end])?;
+    read
 }

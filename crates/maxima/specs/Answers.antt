@@ -1,7 +1,7 @@
 -- What the outward call answers, for every input, and what it leaves in the slice. A refusal carries the number of document 01's table. Assumes nothing.
 use Rattle.std.proofs.Math.Path.{◌≡◌, refl}
-use Rattle.std.proofs.Common.{sym, ap, ◌∙◌, subst, arith, ext_get_or}
-use Rattle.std.specs.Prelude.{Bool, cond, List, [], ◌⊎◌, ℕ, ◌*◌, ◌≤◌, ◌<◌, ℤ, pos, get_or, ◌≤ℤ◌}
+use Rattle.std.proofs.Common.{sym, ◌∙◌, subst, arith, ext_get_or}
+use Rattle.std.specs.Prelude.{Bool, cond, List, [], ◌⊎◌, ℕ, ◌*◌, ◌<◌, ℤ, pos, get_or, ◌≤ℤ◌}
 use Rattle.std.proofs.Math.Bool.{true, false}
 use Rattle.std.proofs.Math.Nat.{le-suc}
 use Rattle.std.proofs.Math.ListN.{length}

@@ -1,7 +1,7 @@
 -- The tally that comes next in rank order, as stores make it, and its letters. Assumes nothing.
 use mathlib.Core.Path.{◌≡◌, refl, sym, ap, ◌∙◌, subst}
 use mathlib.Core.List.{List, [], ◌∷◌, ◌++◌}
-use Prim.Native.Nat.{ℕ, zero, suc, ◌+◌, ◌-◌, ◌*◌, ◌/◌, ◌^◌, ◌≤◌, ◌<◌, suc-le-suc, zero-le}
+use Prim.Native.Nat.{ℕ, zero, suc, ◌+◌, ◌-◌, ◌*◌, ◌/◌, ◌^◌, ◌≤◌, ◌<◌, zero-le}
 use native.Mathlib.Nat.{zero-add, add-mul, mul_assoc, zero-mul, not-suc-le-zero, le_of_suc-le-suc, suc_inj}
 use native.Mathlib.Decide.{dec_lt}
 use native.Mathlib.Omega.{arith}
@@ -10,7 +10,7 @@ use lib.Pow.{pow-add, pow_mono}
 use lib.Seq.{append_snoc, length-take-le, split_at, take-length, take-set-le, take-suc-set, drop-set-lt, get_or-set_same, get_or-set_other}
 use Rattle.lattice.specs.NextLeave.{lone, length_lone, tail_lone, Follows, follows, follows_size}
 use Rattle.lattice.specs.Step.{total_drop}
-use Rattle.lattice.specs.Tally.{total, total_nil, total_cons}
+use Rattle.lattice.specs.Tally.{total, total_cons}
 use Rattle.order.specs.Next.{Next, none_after, same_tails}
 use Rattle.runs.specs.Runs.{mark, present, present_snoc, present_suc, present_below, none_present, mark_some, RunAt}
 

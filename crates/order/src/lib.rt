@@ -1,4 +1,6 @@
 // The tally that comes next in rank order.
+#![tactic(auto)]
+
 ghost use Rattle.std.specs.Prelude.{◌≡◌, ◌+◌, ◌-◌, ◌*◌, ◌/◌, ◌^◌, ◌≤◌, ◌<◌, length};
 ghost use Rattle.lattice.specs.Tally.{total};
 ghost use Rattle.order.specs.Next.{Next};

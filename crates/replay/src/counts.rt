@@ -2,7 +2,7 @@
 ghost use Rattle.std.specs.Prelude.{◌≤◌};
 
 use cases::part::{after, at, first};
-use libc::STDOUT_FILENO;
+use std::io;
 use trials::outcome::Outcome;
 
 // Where a call is counted: the calls of the format are below 63.
@@ -35,55 +35,42 @@ pub fn count(counts: &mut [u64], op: u64, outcome: Outcome) {
 
 fn total(list: &[u64]) -> u64 {
     let mut all: u64 = 0;
-    let mut i = 0;
-    while i < list.len() {
-        all = sum(all, list[i]);
-        i += 1;
+    for n in list {
+        all = sum(all, *n);
     }
     all
 }
 
-fn put(text: &[u8]) {
-    io::write_all(STDOUT_FILENO, text);
-}
-
-fn put_number(n: u64) {
-    io::print_decimal(STDOUT_FILENO, n);
-}
-
 // Prints how many agreed, differed and are not served.
-fn put_counts(agreed: u64, differed: u64, not_served: u64) {
-    put_number(agreed);
-    put(b" agreed, ");
-    put_number(differed);
-    put(b" differed, ");
-    put_number(not_served);
-    put(b" not served\n");
+fn put_counts(rt: &impl Print, agreed: u64, differed: u64, not_served: u64) -> io::Result<()> {
+    println!(rt; "{agreed} agreed, {differed} differed, {not_served} not served")
 }
 
 // Prints the line of a call.
-pub fn put_call(name: &[u8], op: usize, counts: &[u64]) {
-    put(name);
-    put(b": ");
+pub fn put_call(rt: &impl Print, name: &str, op: usize, counts: &[u64]) -> io::Result<()> {
+    print!(rt; "{name}: ")?;
     put_counts(
+        rt,
         at(counts, op),
         at(after(counts, 64), op),
         at(after(counts, 128), op),
-    );
+    )
 }
 
 // Prints the line of records that set something, where any is wrong.
-pub fn put_set(name: &[u8], op: usize, counts: &[u64]) {
+pub fn put_set(rt: &impl Print, name: &str, op: usize, counts: &[u64]) -> io::Result<()> {
     if at(after(counts, 64), op) != 0 {
-        put_call(name, op, counts);
+        put_call(rt, name, op, counts)?;
     }
+    Ok(())
 }
 
 // Prints the last line: all calls.
-pub fn put_all(counts: &[u64]) {
+pub fn put_all(rt: &impl Print, counts: &[u64]) -> io::Result<()> {
     put_counts(
+        rt,
         total(first(counts, 64)),
         total(first(after(counts, 64), 64)),
         total(first(after(counts, 128), 64)),
-    );
+    )
 }

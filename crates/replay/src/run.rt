@@ -5,6 +5,8 @@ use crate::counts::count;
 use cases::input;
 use cases::input::Source;
 use cases::part::{after, at, first};
+use std::io;
+use std::io::Read;
 use trials::board;
 use trials::board::{Board, Setting, set_some};
 use trials::outcome::Outcome;
@@ -68,7 +70,8 @@ fn spent(got: usize, left: u64) -> u64
 
 // Runs the records of a list, and answers how its reading ended. A proved loop has to end, so its turns are counted down from
 // a number that no run uses up.
-pub fn run(
+pub fn run<R: Read>(
+    from: &mut R,
     buf: &mut [u8],
     numbers: &mut [u64],
     counts: &mut [u64],
@@ -78,12 +81,12 @@ pub fn run(
     best: &mut [i32],
     add: &mut [u32],
     by_letter: &mut [u32],
-) -> Source {
+) -> io::Result<Source> {
     let mut source = input::start();
     let mut board = board::none();
     let mut left = u64::MAX;
     while 0 < left {
-        source = input::next(source, buf, numbers);
+        source = input::next(from, source, buf, numbers)?;
         let got = input::numbers_of(source);
         left = spent(got, left);
         let setting = act(
@@ -92,5 +95,5 @@ pub fn run(
         board = counted(setting, got, numbers, counts);
         source = input::opened(source);
     }
-    source
+    Ok(source)
 }

@@ -1,4 +1,6 @@
 // The letters that a tally has, as a word of bits: one run of tiles after another is read off it.
+#![tactic(auto)]
+
 ghost use Rattle.std.specs.Prelude.{◌≡◌, ◌≤◌, length, take};
 ghost use Rattle.std.specs.Int.Count.{ones};
 ghost use Rattle.runs.specs.Runs.{present, RunAt};
@@ -20,7 +22,7 @@ pub fn letters_of(tally: &[u8]) -> u64
 }
 
 // The last letter of a word: the letters up to it, and the word of those before it.
-#[derive(Drop)]
+#[derive(Clone, Copy)]
 pub struct Run {
     pub stop: usize,
     pub rest: u64,

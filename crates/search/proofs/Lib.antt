@@ -2,3 +2,4 @@ pub mod Equity
 pub mod FullRacks
 pub mod Keeping
 pub mod Moves
+pub mod Results

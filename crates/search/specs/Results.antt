@@ -16,7 +16,7 @@ use Rattle.search.specs.Best.{rest_rest, ValueIn}
 use Rattle.search.specs.Naive.{played_of, FirstBest, played_first}
 use Rattle.search.specs.Order.{KeptLe}
 use Rattle.search.specs.BestKeep.{no_leave, leave_of, best_keep, best_keep_lem, of_tiles, mem_of_tiles, of_of_tiles}
-use Rattle.search.specs.Refusals.{or_else, entries_number, rack_number, naive_number, Sized, sizes_same}
+use Rattle.search.specs.Refusals.{Sized}
 use Rattle.search.specs.Answers.{given, best_number, best_value, Answered, Tabled, word, exchange, move_number, move_value, move_kind, refusal, Played}
 use Rattle.search.specs.declared.Kept.{Kept}
 use Rattle.search.specs.declared.calls.Best.{Best}
@@ -76,17 +76,6 @@ module _ {n r : ℕ} {sheet leave : List ℤ} {t entry exit : List ℕ} {b : Mov
     pub kind_played : move_kind b ≡ cond (lt_z (pos 0) (get_or sheet (rank_of n (minus t exit)) (pos 0))) word exchange
     unfolding given
     kind_played = h.kind ∙ rw (no_refusal, ← played_is)
-
-  same_refusal : length entry ≡ n → refusal n r sheet leave t entry ≡ rack_number n r sheet leave t
-  unfolding rack_number naive_number
-  same_refusal l = ap (λ (k : ℕ). or_else k (entries_number sheet leave n t)) (sym (sizes_same n r (length sheet) (length leave) t (length entry) l))
-
-  -- the two searches of one rack agree, where the slice for the kept tally has n counts
-  pub searches_agree : {a : Best} → Answered (rack_number n r sheet leave t) (best_split sheet leave n t) a → length entry ≡ n → (move_number b ≡ best_number a) × (move_value b ≡ best_value a)
-  searches_agree a l = (
-    h.numbered ∙ same_refusal l ∙ sym a.numbered,
-    h.valued ∙ ap (λ (k : ℕ). given k (best_split sheet leave n t) unplayable) (same_refusal l) ∙ sym a.valued,
-  )
 
 -- ---- best_keep_of
 

@@ -19,14 +19,15 @@ use Rattle.laws.specs.Integer.{nat_abs_add}
 use Rattle.laws.specs.Tests.{T-ext, T-both}
 use Rattle.whole.specs.Whole.{whole, Small}
 use Rattle.lattice.specs.Binomial.{binomial, binomial_self, binomial_one, symmetric, monotone}
-use Rattle.lattice.specs.Tally.{total, start, within, rank_of, parts, add_tile, total_nil, total_cons, rank_is, add_tile_is}
+use Rattle.lattice.specs.Tally.{total, start, rank_of, parts, add_tile, total_nil, total_cons, rank_is, add_tile_is}
 use Rattle.lattice.specs.Step.{step, steps_before, step_is, step_none, within_steps, steps_before_append}
 use Rattle.lattice.specs.Rank.{rank_injective, length_add_tile}
 use Rattle.lattice.specs.Parts.{parts_within, part_length}
 use Rattle.runs.specs.Runs.{Absent, over}
 use Rattle.search.specs.Walk.{total_snoc}
 use Rattle.hands.specs.Hands.{holds}
-use Rattle.hands.specs.PartSums.{same, same_eq, sum_parts, sum_parts_cons}
+use Rattle.hands.specs.PartSums.{same, same_eq, sum_parts_cons}
+use Rattle.hands.proofs.PartSums.{sum_parts}
 use Rattle.sums.specs.Spread.{add_one, number_at, add_each, run, marks, offers, offers_to, reach, with_last, extended, length_add_one}
 
 -- the marks with fewer than k tiles of the letter after the first i, m letters after it

@@ -20,14 +20,14 @@ use Rattle.lattice.specs.Numbers.{value}
 use Rattle.lattice.specs.declared.Ranked.{Ranked}
 use Rattle.lattice.specs.declared.Ranked.TheVariants.{At, Refused}
 use Rattle.lattice.specs.Served.{Served, facts}
-use Rattle.hands.specs.Hands.{holds, ways, ways_drawable}
+use Rattle.hands.specs.Hands.{holds, ways}
+use Rattle.hands.proofs.Hands.{ways_drawable}
 use Rattle.fused.specs.Racks.{Pool, RackWays}
 use Rattle.sums.specs.Weight.{weight_of, Clear}
 use Rattle.sums.specs.Limit.{limit_there, limit_back}
 use Rattle.table_sums.specs.Table.{best_at, most_best, Sized, Limit, Filled, Verdict, accepted, limits, Apportioned}
-use Rattle.table_sums.specs.Racks.{most_from, Valued, Cleared}
-use Rattle.table_sums.specs.Passes.{Folding, Summed}
-use Rattle.table_sums.specs.Dealt.{Ways, most_is, limit_weight, count_folding, sum_folding, filled_of}
+use Rattle.table_sums.specs.Racks.{most_from, Cleared}
+use Rattle.table_sums.specs.Dealt.{Ways, most_is}
 
 -- a clear table with an entry for each multiset, the full racks from lo on, and few enough hands
 pub record Clearly (r lo : ℕ) (pool : List ℕ) (xs : List Float) : Type 0 where
@@ -146,18 +146,6 @@ module _ {r lo : ℕ} {best : List ℤ} {pool : List ℕ} {num den : List Float}
 
   pub fold_fits : {k : ℕ} → k ≡ length num → Served (length pool) r × (k ≡ start (length pool) (suc r))
   fold_fits e = (facts (length pool) r s.sizes, e ∙ s.lengths.nums ∙ all_sizes (length pool) r)
-
-  pub sums_filled : {num₁ num₂ den₂ : List Float} → Valued lo best den (length best) num num₁
-      → length num₂ ≡ length num₁ → ((g : List ℕ → ℤ) → Folding pool r g num₁ → Summed (length pool) r g num₂)
-      → length den₂ ≡ length den → ((g : List ℕ → ℤ) → Folding pool r g den → Summed (length pool) r g den₂)
-      → Filled (length pool) r (best_at (length pool) best) pool num₂ den₂
-  sums_filled {num₁} v a f b g =
-      let n = length pool in
-      let l = s.lengths in
-      let small = limit_weight pool r s.dealt best s.limit in
-      filled_of pool r (best_at n best) (a ∙ v.long ∙ l.nums) (b ∙ l.dens)
-      (f _ (sum_folding pool r s.dealt best s.limit num num₁ (l.nums ∙ all_sizes n r) s.clear (subst (λ (k : ℕ). Valued k best den (length best) num num₁) s.racks v) (l.bests ∙ all_sizes n r)))
-      (g _ (count_folding pool r s.dealt small))
 
 -- ---- the limit, once the ways are dealt
 

@@ -1,4 +1,4 @@
--- The full racks' ways, from which the sums are made: the limit on the bests, and what the passes start from and end in. Assumes nothing.
+-- The full racks' ways, from which the sums are made: the limit on the bests, and what the passes start from. Assumes nothing.
 use Rattle.std.specs.Prelude.{◌≡◌, refl, ◌⊎◌, Bool, true, false, ltb, Float, ℤ, pos, nat_abs, ◌*ℤ◌, length, take, replicate}
 use Rattle.std.proofs.Math.Path.{sym, ap}
 use Rattle.std.proofs.Common.{ap₂, ◌∙◌, inl, inr, ltb→lt, lt→ltb, take-suc, le_trans, le_of_eq, one-mul, mul-one, mul-le-mul_left, mul-le-mul_right, eq-zero-or-pos, arith}
@@ -20,17 +20,19 @@ use Rattle.laws.specs.Tests.{T→true, not_true, T-ext}
 use Rattle.whole.specs.Whole.{whole}
 use Rattle.whole.proofs.Steps.{above_zero, mul_whole_above}
 use Rattle.lattice.specs.Binomial.{binomial}
-use Rattle.lattice.specs.Tally.{total, tallies, start, within, rank_of, rank_is}
-use Rattle.lattice.specs.Tallies.{Fits, count, tally_at_fits, within_at, tallies_all}
+use Rattle.lattice.specs.Tally.{total, tallies, start, rank_of, rank_is}
+use Rattle.lattice.specs.Tallies.{Fits, tally_at_fits, within_at, tallies_all}
 use Rattle.lattice.specs.Rank.{AtMost, rank_below, rank_from}
 use Rattle.lattice.specs.Leaves.{leave_rank}
 use Rattle.lattice.specs.Lattice.{length_lattice_start}
-use Rattle.hands.specs.Hands.{holds, ways, ways_le, ways_drawable, drawable_ways, ways_lacking, hand_sum_cond}
-use Rattle.hands.specs.Fold.{partial, partial_start_full, partial_start_leave, partial_count_le, partial_sum_le, partial_pos, partial_end, partial_hand_count}
+use Rattle.hands.specs.Hands.{holds, ways}
+use Rattle.hands.proofs.Hands.{ways_le, ways_drawable, drawable_ways, ways_lacking}
+use Rattle.hands.specs.Fold.{partial, partial_start_full, partial_start_leave, partial_pos}
+use Rattle.hands.proofs.Fold.{partial_count_le, partial_sum_le}
 use Rattle.sums.specs.Weight.{largest, Clear}
-use Rattle.table_sums.specs.Table.{best_at, most_best, Limit, Filled}
+use Rattle.table_sums.specs.Table.{best_at, most_best, Limit}
 use Rattle.table_sums.specs.Racks.{larger_at, most_from, Valued}
-use Rattle.table_sums.specs.Passes.{Partly, Folding, Summed}
+use Rattle.table_sums.specs.Passes.{Partly, Folding}
 
 -- xs has each full rack's ways, and +0.0 below
 pub record Ways (pool : List ℕ) (r : ℕ) (xs : List Float) : Type 0 where
@@ -219,12 +221,3 @@ module _ (pool : List ℕ) (r : ℕ) where
           small = λ taken m. le_trans (partial_sum_le pool r (best_at n best) M (λ t a b p. best_within n r best pool t (record { letters = a; tiles = b }) (T→true (holds pool t) (ways_drawable pool t a p))) taken m) limit.within;
           lacking = λ R i l h e k. ap (λ (w : ℕ). pos w *ℤ best_at n best R) (ways_lacking pool R i l h e k) ∙ zero-*ℤ (best_at n best R);
         }
-
-  -- ---- and what they end in
-  pub filled_of : (best : List ℕ → ℤ) {num den : List Float} → length num ≡ binomial (n + r) n → length den ≡ binomial (n + r) n → Summed n r (λ (t : List ℕ). pos (ways pool t) *ℤ best t) num → Summed n r (λ (t : List ℕ). pos (ways pool t)) den → Filled n r best pool num den
-  filled_of best a b s c = record {
-    nums = a;
-    dens = b;
-    sum = λ m l. s.at m l ∙ ap whole (sym (hand_sum_cond pool r best m));
-    count = λ m l. c.at m l ∙ ap whole (sym (partial_end integers n r (λ (t : List ℕ). pos (ways pool t)) m l.letters) ∙ sym (partial_pos n r (ways pool) (replicate n true) m) ∙ ap pos (partial_hand_count pool r m l.letters));
-  }

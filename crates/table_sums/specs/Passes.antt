@@ -13,7 +13,8 @@ use Rattle.lattice.specs.Tallies.{count, start_count, start_mono, Fits}
 use Rattle.lattice.specs.Rank.{AtMost, length_add_tile, total_add_tile}
 use Rattle.lattice.specs.Served.{Served}
 use Rattle.hands.specs.Hands.{holds}
-use Rattle.hands.specs.Fold.{partial, partial_step, partial_full, partial_lacking, partial_end}
+use Rattle.hands.specs.Fold.{partial, partial_step, partial_full, partial_lacking}
+use Rattle.hands.proofs.Fold.{partial_end}
 use Rattle.hands.specs.Pass.{run, length_run, run_none, run_all, run_next, run_up}
 use Rattle.table_sums.specs.Gain.{Gained, Gaining}
 use Rattle.fused.specs.Deal.{within_below}

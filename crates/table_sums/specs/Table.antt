@@ -1,5 +1,5 @@
 -- What a call of apportion_table answers, for every input, and what it leaves in the two tables. Assumes nothing.
-use Rattle.std.specs.Prelude.{◌≡◌, true, List, [], ◌∷◌, map, ℕ, ◌+◌, ◌*◌, ◌^◌, ◌≤◌, max, ℤ, pos, nat_abs, Float, length, get_or}
+use Rattle.std.specs.Prelude.{◌≡◌, true, List, map, ℕ, ◌+◌, ◌*◌, ◌^◌, ◌≤◌, max, ℤ, pos, Float, length, get_or}
 use Rattle.std.proofs.Common.{arith}
 use Rattle.std.specs.Float.{nan}
 use Rattle.laws.specs.Integer.{at_ℤ}

@@ -1,4 +1,6 @@
 // The table sums: over a table of bests, each multiset's sum of the bests of the hands that hold it, and the number of those hands.
+#![tactic(auto)]
+
 ghost use Rattle.std.specs.Prelude.{◌≡◌, true, false, length};
 ghost use Rattle.lattice.specs.Binomial.{Binomials};
 ghost use Rattle.lattice.specs.Answers.{served};

@@ -6,7 +6,7 @@ use lattice::{Lattice, Ranked};
 
 // The lattice, its length, where its full racks start, and how many entries its add table has (0 where there is no room for it);
 // and how many entries the pool, the sheet, the leave and the best table have.
-#[derive(Drop)]
+#[derive(Clone, Copy)]
 pub struct Board {
     pub lattice: Lattice,
     pub size: usize,
@@ -19,7 +19,7 @@ pub struct Board {
 }
 
 // The board after a record, and what came of it.
-#[derive(Drop)]
+#[derive(Clone, Copy)]
 pub struct Setting {
     pub board: Board,
     pub outcome: Outcome,

@@ -106,7 +106,7 @@ fn cleaned(
 }
 
 // How long num, den, ways and maxsheet are: short (4 num, 5 den, 6 ways, 7 maxsheet).
-#[derive(Drop)]
+#[derive(Clone, Copy)]
 struct Sizes {
     num: usize,
     den: usize,

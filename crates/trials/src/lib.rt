@@ -1,4 +1,6 @@
 // The cases of a list, each run through the call that it names and compared with its record.
+#![tactic(auto)]
+
 pub mod board;
 mod fused_form;
 mod leave_values;

@@ -1,5 +1,5 @@
 // What came of a record.
-#[derive(Drop)]
+#[derive(Clone, Copy)]
 pub enum Outcome {
     Agreed,
     Differed,

@@ -11,7 +11,8 @@ use Rattle.lattice.specs.Binomial.{binomial, row, below, by_row}
 use Rattle.lattice.specs.Tally.{total, tallies, lattice, tally_at, start, within, rank_of, plus}
 use Rattle.lattice.specs.Answers.{served}
 use Rattle.lattice.specs.Leaves.{AddTable}
-use Rattle.hands.specs.Hands.{hands, ways, hand_count, hand_sum, hands_count, sum_hands}
+use Rattle.hands.specs.Hands.{hands, ways, hand_count, hand_sum, hands_count}
+use Rattle.hands.proofs.Hands.{sum_hands}
 use Rattle.draws.specs.Draws.{best_after, rack_after, draw_count, draw_sum, draw_mean, draw_most, maxima, Lengths, Fills, Limit, DrawNumber}
 use Rattle.draws.specs.Draws.DrawNumber.{limit, accepted}
 

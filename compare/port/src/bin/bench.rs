@@ -560,7 +560,7 @@ several batches. A ratio is the original's time over the port's, so above 1 the 
 is by how much the original's slowest run passes its fastest. What the port gives is compared with what the original gives. Written by
 `bench RUNS` of `compare/`:
 
-    rt staticlib census && cd docs && cargo run --manifest-path ../compare/Cargo.toml -j1 --release --offline --bin bench -- RUNS > SPEED.md
+    (cd crates/census && rt lib) && cd docs && cargo run --manifest-path ../compare/Cargo.toml -j1 --release --offline --bin bench -- RUNS > SPEED.md
 
 - The port tests its sizes, lengths and tables at each call, which the original does not. `Judging left out`: the port's time less that of the same call
   over tables of which the last entry is wrong, which are judged to the end and refused; leave_max is such a table where scatter is in force.

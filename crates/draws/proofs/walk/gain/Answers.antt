@@ -1,0 +1,26 @@
+-- `draws::walk::gain` meets its contract. Assumes nothing.
+use mathlib.Core.Path.{◌≡◌, ap, ap₂, ◌∙◌}
+use Prim.Native.Nat.{ℕ, max}
+use lib.IntN.{ℤ, nat_abs}
+use lib.Ieee.{binary64, add, mul}
+use mir.Syntax.{w32}
+use mir.Val.{SFits, to_z, of_z}
+use mir.ValLaws.{to_z-of_z}
+use borrow.Author.Rules.{rules}
+use Rattle.laws.specs.Integer.{at_ℤ}
+use Rattle.whole.specs.Whole.{whole}
+use Rattle.draws.specs.Walk.{totals, gathered_one}
+use Rattle.draws.specs.Walk as Walk
+use Rattle.draws.specs.Walk.{factor, met, met_tile, Gathered}
+use Rattle.draws.proofs.walk.gain.Goals as goal
+
+pub returns : goal.returns
+unfolding Walk.gain
+returns c =
+    let a = c.args in
+    let x : ℤ = at_ℤ a.full_v.now a.ridx in
+    let fits : SFits w32 x = search rules in
+    let back : to_z w32 (of_z w32 x) ≡ x = to_z-of_z w32 x fits in
+    gathered_one (a.w, a.ridx)
+    (ap₂ (λ (z : ℤ) (k : ℕ). totals (add binary64 a.num (mul binary64 a.w (whole z))) (add binary64 a.den a.w) k) back (c.larger.ensures ∙ ap (λ (z : ℤ). max a.most (nat_abs z)) back))
+    fits.sfits

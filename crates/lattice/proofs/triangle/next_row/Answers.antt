@@ -1,0 +1,19 @@
+-- `lattice::triangle::next_row` meets its contract. The loop's invariant is `Making`: k entries of the next row are made. Assumes nothing.
+use Rattle.std.proofs.Common.{◌+◌, get_or, refl, arith}
+use Rattle.lattice.proofs.Rows.{making_starts, making_more, making_ends}
+use Rattle.lattice.proofs.triangle.next_row.Goals as goal
+
+pub loop-k-init : goal.loop-k-init
+loop-k-init c = making_starts c.args.n c.args.at c.args.out.now
+
+pub loop-k-preserved : goal.loop-k-preserved
+loop-k-preserved c =
+    let a = c.args in
+    let l = c.loop-k in
+    rw c.saturating_add.ensures (making_more a.n a.at a.out.now l.out l.k l.left c.requires.0 c.requires.1 l.invariant (get_or l.out (a.at + l.k) 0) c.loop-k-test.true refl)
+
+pub returns : goal.returns
+returns c =
+    let a = c.args in
+    let l = c.loop-k in
+    making_ends a.n a.at a.out.now l.out l.k l.left c.requires.0 c.requires.1 l.invariant (omega arith)

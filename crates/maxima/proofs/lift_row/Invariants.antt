@@ -1,0 +1,9 @@
+-- `maxima::lift_row` meets its contract. The invariant: dst is what the letters below t make of dst at entry, and is as long. The measure is what is left of the letters. Assumes nothing.
+use Prim.Native.Nat.{◌≤◌}
+use mathlib.Core.Path.{◌≡◌}
+use lib.ListN.{length}
+use Rattle.maxima.specs.Maxima.{lift_row}
+use Rattle.maxima.proofs.lift_row.Given as goal
+
+abbrev pub invariant-loop-t : goal.invariant-loop-t
+invariant-loop-t l = (l.t ≤ l.n) × (length l.dst ≡ length l.initial.dst) × (l.dst ≡ lift_row l.n l.add l.idx l.t l.initial.dst)
