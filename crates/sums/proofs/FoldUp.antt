@@ -8,7 +8,7 @@ use Rattle.std.proofs.Math.Decide.{dec_lt}
 use Rattle.whole.specs.Whole.{whole}
 use Rattle.sums.specs.Folds.{ways_best_ℤ, sum_all, sum_all_f}
 use Rattle.lattice.specs.Tables.{Rises}
-use Rattle.laws.specs.Lists.{get_or_map_lt, map_replicate, get_d_replicate}
+use Rattle.laws.specs.Lists.{get_or_map_lt, map_replicate, get_or_replicate}
 use Rattle.lattice.specs.Tally.{total, start, rank_of}
 use Rattle.lattice.specs.Leaves.{table_rises, leave_rank, leave_at}
 use Rattle.laws.specs.Sums.{naturals, integers}
@@ -38,7 +38,7 @@ module _ (n r : ℕ) (add unseen : List ℕ) (ways best : List ℤ) (h : Exactly
       at_leave : (x : List ℕ) → length x ≡ n → total x < r → get_or magnitudes (rank_of n x) 0 ≤ 2 ^ 53
       at_leave x lx hx =
           rw (superset_sums naturals n r add h.table (λ j. nat_abs (rack j)) unseen (λ R f i l e k. ap nat_abs (h.lacking R f i l e k)) (map nat_abs zeros_ℤ) zero_size
-          (λ j. rw (map_replicate nat_abs (start n r) (pos 0)) (get_d_replicate (start n r) j 0)) x lx hx) (h.within_limit x lx hx)
+          (λ j. rw (map_replicate nat_abs (start n r) (pos 0)) (get_or_replicate (start n r) j 0)) x lx hx) (h.within_limit x lx hx)
 
       go : Dec (i < start n r) → get_or magnitudes i 0 ≤ 2 ^ 53
       go (yes l) = let x = leave_at n r i l in rw x.rank at (at_leave x.leave x.letters x.tiles)
@@ -54,4 +54,4 @@ module _ (n r : ℕ) (add unseen : List ℕ) (ways best : List ℤ) (h : Exactly
       ∙ ap (λ (l : List Float). get_or l (rank_of n x) nan) (fold_up_exact (start n r) n add unseen ways best rises h.racks h.small zeros_ℤ (length-replicate (start n r) (pos 0)) limited)
       ∙ get_or_map_lt whole (sum_all (pos 0) ◌+ℤ◌ rack (start n r) n add unseen zeros_ℤ) (rank_of n x) (pos 0) nan
       (omega (arith, leave_rank n r x lx hx, length_sums (pos 0) ◌+ℤ◌ rack (start n r) n add unseen zeros_ℤ, length-replicate (start n r) (pos 0)))
-      ∙ ap whole (superset_sums integers n r add h.table rack unseen h.lacking zeros_ℤ (length-replicate (start n r) (pos 0)) (λ i. get_d_replicate (start n r) i (pos 0)) x lx hx)
+      ∙ ap whole (superset_sums integers n r add h.table rack unseen h.lacking zeros_ℤ (length-replicate (start n r) (pos 0)) (λ i. get_or_replicate (start n r) i (pos 0)) x lx hx)

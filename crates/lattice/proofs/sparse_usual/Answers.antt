@@ -29,7 +29,7 @@ loop-i-init c =
     ]
 
 pub returns-then-x-high : goal.returns-then-x-high
-returns-then-x-high c = not_ascending _ _ _ _ _ (is_served (goal.at.returns-then-x-high c).Start) c.requires.5 (taken_wrong c.loop-i.invariant.1 c.loop-i-test.true c.if-x-high.true)
+returns-then-x-high c = not_ascending _ _ _ _ _ (is_served (goal.at.returns-then-x-high c).Start) c.requires.5 (taken_wrong c.loop-i.invariant.1 c.loop-i-test.true (omega (arith, c.if-x-high.true, c.loop-i.invariant.1.top)))
 
 pub loop-i-preserved : goal.loop-i-preserved
 loop-i-preserved c =

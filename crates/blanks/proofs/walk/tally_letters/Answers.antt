@@ -3,7 +3,7 @@ use mathlib.Core.Path.{◌≡◌, sym, ap, ◌∙◌}
 use Prim.Native.Nat.{ℕ, suc, ◌+◌, ◌-◌, ◌<◌}
 use native.Mathlib.Omega.{arith}
 use lib.ListN.{length, get_or}
-use Rattle.laws.specs.Lists.{get_d_replicate}
+use Rattle.laws.specs.Lists.{get_or_replicate}
 use Rattle.runs.specs.Runs.{present}
 use Rattle.blanks.specs.Tallied.{present_more, present_room, present_zeros, Tallying, tallying_none, tallying_room, tallying_small, tallying_more}
 use Rattle.blanks.proofs.walk.tally_letters.Goals.{After-wide-l}
@@ -12,7 +12,7 @@ use Rattle.blanks.proofs.walk.tally_letters.Goals as goal
 pub loop-j-init : goal.loop-j-init
 loop-j-init c =
     let t = c.args.tally.now in
-    (tallying_none c.args.letters.now t (λ l h. ap (λ xs. get_or xs l 0) c.requires.0 ∙ get_d_replicate (length t) l 0), sym (ap present c.requires.0 ∙ present_zeros (length t)))
+    (tallying_none c.args.letters.now t (λ l h. ap (λ xs. get_or xs l 0) c.requires.0 ∙ get_or_replicate (length t) l 0), sym (ap present c.requires.0 ∙ present_zeros (length t)))
 
 -- what is known of a turn's tile
 module _ (c : goal.After-wide-l) where
