@@ -571,6 +571,12 @@ is by how much the original's slowest run passes its fastest. What the port give
   the first touch of the memory; `into a slice at hand` is the port's call alone, against the same time of the original.
 ";
 
+// what `rt version` says here
+fn toolchain() -> String {
+    let said = std::process::Command::new("rt").arg("version").output();
+    said.map_or("not known".to_string(), |o| String::from_utf8_lossy(&o.stdout).trim().to_string())
+}
+
 // the least seconds of a thread that does nothing
 fn thread() -> f64 {
     let batch = || seconds(|| (0..1000).for_each(|_| std::thread::scope(|s| drop(s.spawn(|| ()))))).0 / 1000.0;
@@ -608,9 +614,10 @@ fn main() {
     }
     print!("{}", INTRODUCTION.replace("RUNS", &runs.to_string()));
     println!(
-        "- A thread that is started and joined and does nothing takes {}: the original's times for its two tables include that.\n",
+        "- A thread that is started and joined and does nothing takes {}: the original's times for its two tables include that.",
         time(thread())
     );
+    println!("- The toolchain of the port, as `rt version` names it: {}.\n", toolchain());
     for (b, batches, long_batches) in &boards {
         let words = b.sheet.iter().filter(|&&v| v > 0).count();
         println!(
