@@ -1,4 +1,4 @@
-/* Document 01's listing board: a rank as an address, hands that hold a leave against draws after keeping it, and a refusal. */
+/* The example board of docs/SCOPE.md, "The listing": a rank as an address, hands that hold a leave against draws after keeping it, and a refusal. */
 #include "census.h"
 #include <stdio.h>
 #include <stdlib.h>

@@ -4,7 +4,7 @@
 //! bounds, the call is refused: one that gave `()` gives a `Result`, and one that gave a value gives none (`!0`) or [`UNPLAYABLE`].
 //! [`sys`] has the same calls with their numbers. A refused call writes nothing. Threads are taken and not used.
 //!
-//! Document 01's listing board:
+//! The example board of docs/SCOPE.md, "The listing":
 //!
 //! ```
 //! use census::{AddTable, MultisetLattice, best_equity_table, dynamic_leave_value};

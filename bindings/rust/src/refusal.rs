@@ -1,6 +1,6 @@
 use std::fmt;
 
-/// Why a call is refused: document 01's number, the lowest that applies. A refused call writes nothing.
+/// Why a call is refused: docs/SCOPE.md's number, the lowest that applies. A refused call writes nothing.
 #[derive(Debug, PartialEq, Eq, Clone, Copy)]
 pub struct Refusal(pub u8);
 

@@ -1,4 +1,4 @@
-// What the original did not answer: refused with document 01's numbers, nothing written, or answered where document 01 does.
+// What the original did not answer: refused with docs/SCOPE.md's numbers, nothing written, or answered where docs/SCOPE.md does.
 use census::*;
 
 const SHEET: [i32; 6] = [0, 2, 1, 10, 30, 5];

@@ -1,5 +1,5 @@
 // The original, unchanged, as modules of this library; stubs for the two modules that prob.rs names and the census does not use;
-// a plain model of document 01; and inputs for both.
+// a plain model of docs/SCOPE.md; and inputs for both.
 
 pub mod error {
     include!(env!("ORIGINAL_ERROR"));

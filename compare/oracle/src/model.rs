@@ -1,4 +1,4 @@
-// Document 01 written out plainly, independent of the original: ranks by listing every tally, bests by trying every split, sums in whole
+// docs/SCOPE.md written out plainly, independent of the original: ranks by listing every tally, bests by trying every split, sums in whole
 // numbers over full racks. Slow; for short lattices. A refused call gives the number of the refusal.
 use std::collections::HashMap;
 

@@ -6,7 +6,7 @@ use std::fmt::Debug;
 #[derive(Clone, Copy, PartialEq)]
 pub enum By {
     Original,
-    // the plain model of document 01, or a worked example there
+    // the plain model of docs/SCOPE.md, or a worked example there
     Document,
 }
 

@@ -1,2 +1,2 @@
--- What the crate promises: the constants, row after row. Assumes nothing.
-pub mod Entries
+-- Binomials and their laws.
+pub mod Binomial

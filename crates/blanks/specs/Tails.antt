@@ -42,7 +42,23 @@ Right ls unseen m real tails s = (i : ℕ) → i ≤ m → counted (suc i) ls �
 -- so it is for the first `free` tiles, and any more that can all be real force one
 pub record Tails (ls unseen : List ℕ) (m real : ℕ) (tails : List ℕ) (free : ℕ) : Type 0 where
   pub right : Right ls unseen m real tails free
-  pub stops : (i : ℕ) → i ≤ m → free < counted (suc i) ls → counted (suc i) ls ≤ real → Forcing ls unseen i
+  pub stops : (i : ℕ) → i ≤ m → free < counted (suc i) ls → counted (suc i) ls ≤ real → Unforced ls unseen i → ⊥
+
+-- some letter is it then
+forcing : (ls unseen : List ℕ) (i : ℕ) → (Unforced ls unseen i → ⊥) → Forcing ls unseen i
+forcing ls unseen zero f = absurd (f (record { each = λ l h. absurd (omega arith) }))
+forcing ls unseen (suc i) f = by (dec_lt (get_or unseen (suc i) 0) (count (suc i) ls)) (λ g. forcing ls unseen i g)
+  where
+    by : Dec (get_or unseen (suc i) 0 < count (suc i) ls) → ((Unforced ls unseen i → ⊥) → Forcing ls unseen i) → Forcing ls unseen (suc i)
+    by (yes h) rest = record { letter = i; below = omega arith; more = h }
+    by (no h) rest =
+        let g = rest (λ u. f (record { each = λ l a. each u l (eq-or-lt_of_le (omega arith)) })) in
+        let b = g.below in
+        record { letter = g.letter; below = omega arith; more = g.more }
+      where
+        each : Unforced ls unseen i → (l : ℕ) → (l ≡ i) ⊎ (l < i) → count (suc l) ls ≤ get_or unseen (suc l) 0
+        each u l (inl e) = rw e (omega arith)
+        each u l (inr a) = u.each l a
 
 -- ---- what they are for
 
@@ -112,7 +128,7 @@ module _ {cells : ℕ} {ls : List ℕ} {ds : List ℤ} {unseen tally : List ℕ}
     real_none h =
         let u = ready.upto in
         let t = ready.tiles in
-        tail_none i ready (made.stops i ready.top (omega arith) (omega arith))
+        tail_none i ready (forcing ls unseen i (made.stops i ready.top (omega arith) (omega arith)))
 
 -- ---- how they are made
 
@@ -269,7 +285,7 @@ module _ {cells : ℕ} {ls : List ℕ} {ds : List ℤ} {unseen tally : List ℕ}
       tails_forced h =
           record {
             right = here.right;
-            stops = λ i a g c. record { letter = b; below = later i g; more = let e = own_count in omega arith };
+            stops = λ i a g c u. absurd (let e = own_count in let l = u.each b (later i g) in omega arith);
           }
 
       module _ (fits : s + x ≤ real) where

@@ -1,8 +1,16 @@
-// A list of comparison cases (its format: compare/README.md): its records read one at a time, and the parts of a record read,
-// compared and handed on. A number below 0 is kept as its two's complement in 64 bits.
+//! A list of comparison cases (its format: compare/README.md): its records, taken a word at a
+//! time, and the numbers of a record, read and compared. A number below 0 is kept as its two's
+//! complement in 64 bits.
 #![tactic(auto)]
 
-pub mod fill;
-pub mod input;
-pub mod part;
-pub mod same;
+mod call;
+mod fault;
+mod fields;
+mod reading;
+mod recorded;
+
+pub use call::{Call, UnknownCall};
+pub use fault::Fault;
+pub use fields::Fields;
+pub use reading::{ListError, Reading, is_blank};
+pub use recorded::{Recorded, same};

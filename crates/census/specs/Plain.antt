@@ -1,9 +1,10 @@
--- What a plain answer says: the number of document 01's table, the lowest that applies, and the value, which is that of the table's left column where refused. Assumes nothing.
+-- What a plain answer says: the number of the refusal (docs/SCOPE.md, "Refusals"), the lowest that applies, and the value. Assumes nothing.
 use Rattle.std.specs.Prelude.{◌≡◌, Bool, List, ℕ, ℤ}
 use Rattle.std.proofs.Common.{◌∙◌}
 use Rattle.lattice.specs.Tally.{rank_of, minus}
-use Rattle.lattice.specs.Numbers.{number, value, or_none, Gives, GivesRank, AtPlace}
-use Rattle.lattice.specs.declared.Ranked.{Ranked}
+use Rattle.refusal.specs.Refusal.{number_of}
+use Rattle.lattice.specs.Answers.{Answer}
+use Rattle.lattice.specs.Numbers.{value, or_none, Gives, GivesRank, AtPlace}
 use Rattle.whole.specs.Mean.{unplayable}
 use Rattle.search.specs.Answers.{given, Kind, word, exchange, no_move, refusal, by_kind, played}
 use Rattle.search.specs.BestKeep.{no_leave}
@@ -11,8 +12,7 @@ use Rattle.search.specs.Order.{kept}
 use Rattle.search.specs.Split.{best_split}
 use Rattle.search.specs.declared.Kept.{Kept}
 use Rattle.fused.specs.declared.mode.Mode.{Mode}
-use Rattle.draws.specs.Draws.{DrawNumber, draw_mean, given as givenMean, Valued, number as drawNumber, value as drawValue}
-use Rattle.draws.specs.declared.Drawn.{Drawn}
+use Rattle.draws.specs.Draws.{Drawn, DrawNumber, draw_mean, given as givenMean, Valued, value as drawValue}
 
 -- a size or a start: none where refused
 pub record PlainSize (refusal v answered answer : ℕ) : Type 0 where
@@ -59,13 +59,13 @@ flags zeta null-leave scatter = record { zeta = zeta; null_leave = null-leave; s
 -- ---- from the lattice's answers
 
 -- an answer taken apart
-abbrev pub Apart : Ranked → ℕ → ℕ → Type 0
-Apart b k v = (k ≡ number b) × (v ≡ value b)
+abbrev pub Apart : Answer → ℕ → ℕ → Type 0
+Apart b k v = (k ≡ number_of b) × (v ≡ value b)
 
-pub size_apart : {b answer : Ranked} {refusal v x y : ℕ} → Gives b answer refusal v → Apart b x y → PlainSize refusal v x y
+pub size_apart : {b answer : Answer} {refusal v x y : ℕ} → Gives b answer refusal v → Apart b x y → PlainSize refusal v x y
 size_apart g a = record { numbered = a.0 ∙ g.numbered; valued = a.1 ∙ g.valued }
 
-pub rank_apart : {n r : ℕ} {t : List ℕ} {b answer : Ranked} {refusal x y : ℕ} → GivesRank n r t b answer refusal → Apart b x y → PlainRank n r t refusal x y
+pub rank_apart : {n r : ℕ} {t : List ℕ} {b answer : Answer} {refusal x y : ℕ} → GivesRank n r t b answer refusal → Apart b x y → PlainRank n r t refusal x y
 rank_apart {n} {r} {t} {b} g a =
     record {
       plain = size_apart g.gives a;
@@ -75,5 +75,5 @@ rank_apart {n} {r} {t} {b} g a =
 -- ---- from the draws' answers
 
 pub draw_apart : {n r : ℕ} {add : List ℕ} {full : List ℤ} {pool : List ℕ} {i d x : ℕ} {y : ℤ} {b : Drawn} → Valued n r add full pool i d b
-    → (x ≡ drawNumber b) × (y ≡ drawValue b) → PlainDraw n r add full pool i d x y
+    → (x ≡ number_of b) × (y ≡ drawValue b) → PlainDraw n r add full pool i d x y
 draw_apart {n} {r} {add} {full} {pool} {i} {d} v a = rw (a.0, a.1) (record { numbered = v.numbered; valued = v.valued })

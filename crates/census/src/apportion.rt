@@ -1,4 +1,3 @@
-// The sums over hands, from a table of bests and fused.
 ghost use Rattle.table_sums.specs.Table.{Apportioned};
 ghost use Rattle.fused.specs.Answer.{input, lent, Fused};
 ghost use Rattle.census.specs.Plain.{flags};
@@ -6,6 +5,7 @@ ghost use Rattle.census.specs.Plain.{flags};
 use fused::calls::apportion_fused;
 use fused::mode::Mode;
 use lattice::Lattice;
+use refusal::number;
 use table_sums::apportion_table;
 
 #[unsafe(no_mangle)]
@@ -19,8 +19,7 @@ pub extern "C" fn census_apportion_table(
 ) -> u8
     ensures { Apportioned n r best.now unseen.now num.old den.old result num.new den.new }
 {
-    let lat = Lattice { n, r };
-    apportion_table(lat, best, unseen, num, den)
+    number(apportion_table(Lattice { n, r }, best, unseen, num, den))
 }
 
 #[unsafe(no_mangle)]
@@ -46,13 +45,23 @@ pub extern "C" fn census_apportion_fused(
         (lent num.old den.old ways.old maxsheet.old) result
         (lent num.new den.new ways.new maxsheet.new) }
 {
-    let lat = Lattice { n, r };
     let mode = Mode {
         zeta,
         null_leave,
         scatter,
     };
-    apportion_fused(
-        lat, add, by_letter, sheet, leave, leave_max, unseen, num, den, ways, maxsheet, mode,
-    )
+    number(apportion_fused(
+        Lattice { n, r },
+        add,
+        by_letter,
+        sheet,
+        leave,
+        leave_max,
+        unseen,
+        num,
+        den,
+        ways,
+        maxsheet,
+        mode,
+    ))
 }

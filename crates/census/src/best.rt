@@ -1,95 +1,102 @@
-// The best of a rack, of every full rack, and the best leave.
 ghost use Rattle.std.specs.Prelude.{◌≡◌};
+ghost use Rattle.refusal.specs.Refusal.{number_of};
 ghost use Rattle.search.specs.Split.{best_split};
 ghost use Rattle.search.specs.BestKeep.{best_keep};
 ghost use Rattle.search.specs.Order.{kept};
 ghost use Rattle.search.specs.Refusals.{rack_number, leave_number};
-ghost use Rattle.search.specs.Answers.{best_number, best_value, keep_number, keep_value, move_number, move_value, move_kind, Tabled};
+ghost use Rattle.search.specs.Answers.{best_value, keep_value, move_value, move_kind, Tabled};
 ghost use Rattle.census.specs.Plain.{PlainBest, PlainKeep, kind_byte, PlainPlay};
 
+use crate::ranks::NONE;
 use lattice::Lattice;
+use refusal::{Refusal, number};
+use search::Kept;
 use search::calls::{
-    Best, Keep, Move, best_equity_of, best_equity_table, best_keep_of, naive_best_equity,
+    self, Kind, best_equity_of, best_equity_table, best_keep_of, naive_best_equity,
 };
 use whole::UNPLAYABLE;
 
-// A best with its number: UNPLAYABLE where refused.
+/// A best or a mean with the number of its refusal: UNPLAYABLE where refused, and where there is no
+/// draw.
 #[repr(C)]
-#[derive(Clone, Copy)]
+#[derive(Clone, Copy, Debug, PartialEq, Eq, Hash)]
 pub struct Equity {
     pub number: u8,
     pub value: i32,
 }
 
-// The best leave's value and rank with their number: UNPLAYABLE and none where refused.
+/// The best leave's value and rank with the number of their refusal: UNPLAYABLE and `NONE` where
+/// refused, and where no leave is given.
 #[repr(C)]
-#[derive(Clone, Copy)]
+#[derive(Clone, Copy, Debug, PartialEq, Eq, Hash)]
 pub struct Leave {
     pub number: u8,
     pub value: i32,
     pub rank: u32,
 }
 
-// A best with its number and the kind of the move: 0 no move, 1 a word, 2 an exchange. UNPLAYABLE and no move where refused.
+/// A best with the number of its refusal and the kind of the move: 0 no move, 1 a word, 2 an
+/// exchange. UNPLAYABLE and no move where refused.
 #[repr(C)]
-#[derive(Clone, Copy)]
+#[derive(Clone, Copy, Debug, PartialEq, Eq, Hash)]
 pub struct Play {
     pub number: u8,
     pub kind: u8,
     pub value: i32,
 }
 
-fn plain_best(answer: Best) -> Equity
-    ensures { (result.number ≡ best_number answer) × (result.value ≡ best_value answer) }
-{
-    match answer {
-        Best::Is(v) => Equity {
-            number: 0,
-            value: v,
-        },
-        Best::Refused(k) => Equity {
-            number: k,
-            value: UNPLAYABLE,
-        },
+impl From<Result<i32, Refusal>> for Equity {
+    ghost from_gives = { λ answer equity. (equity.number ≡ number_of answer) × (equity.value ≡ best_value answer) };
+
+    #[tactic(auto, unfolding(search::specs::Answers::best_value))]
+    fn from(answer: Result<i32, Refusal>) -> Equity {
+        Equity {
+            number: number(answer),
+            value: answer.unwrap_or(UNPLAYABLE),
+        }
     }
 }
 
-fn plain_keep(answer: Keep) -> Leave
-    ensures { (result.number ≡ keep_number answer) × (kept result.value result.rank ≡ keep_value answer) }
-{
-    match answer {
-        Keep::Is(v, k) => Leave {
-            number: 0,
-            value: v,
-            rank: k,
-        },
-        Keep::Refused(k) => Leave {
-            number: k,
-            value: UNPLAYABLE,
-            rank: 4294967295,
-        },
+impl From<Result<Option<Kept>, Refusal>> for Leave {
+    ghost from_gives = { λ answer leave. (leave.number ≡ number_of answer) × (kept leave.value leave.rank ≡ keep_value answer) };
+
+    #[tactic(auto, unfolding(search::specs::Answers::keep_value))]
+    fn from(answer: Result<Option<Kept>, Refusal>) -> Leave {
+        match answer {
+            Ok(Some(found)) => Leave {
+                number: 0,
+                value: found.value,
+                rank: found.rank,
+            },
+            _ => Leave {
+                number: number(answer),
+                value: UNPLAYABLE,
+                rank: NONE,
+            },
+        }
     }
 }
 
-fn plain_play(answer: Move) -> Play
-    ensures { (result.number ≡ move_number answer) × (result.kind ≡ kind_byte (move_kind answer)) × (result.value ≡ move_value answer) }
-{
-    match answer {
-        Move::Word(v) => Play {
-            number: 0,
-            kind: 1,
-            value: v,
-        },
-        Move::Exchange(v) => Play {
-            number: 0,
-            kind: 2,
-            value: v,
-        },
-        Move::Refused(k) => Play {
-            number: k,
-            kind: 0,
-            value: UNPLAYABLE,
-        },
+impl From<Result<calls::Play, Refusal>> for Play {
+    ghost from_gives = { λ answer play. (play.number ≡ number_of answer) × (play.kind ≡ kind_byte (move_kind answer)) × (play.value ≡ move_value answer) };
+
+    #[tactic(auto, unfolding(search::specs::Answers::move_value, search::specs::Answers::move_kind, search::specs::Answers::kind_of, crate::specs::Plain::kind_byte))]
+    fn from(answer: Result<calls::Play, Refusal>) -> Play {
+        match answer {
+            Ok(play) => Play {
+                number: 0,
+                kind: match play.kind {
+                    Kind::Word => 1,
+                    Kind::Exchange => 2,
+                },
+                value: play.best,
+            },
+            Err(refusal) => Play {
+                number: u8::from(refusal),
+                kind: 0,
+                value: UNPLAYABLE,
+            },
+        }
     }
 }
 
@@ -104,8 +111,7 @@ pub extern "C" fn census_best_equity_of(
     ensures { PlainBest (rack_number n r sheet.now leave.now tally.now)
         (best_split sheet.now leave.now n tally.now) result.number result.value }
 {
-    let lat = Lattice { n, r };
-    plain_best(best_equity_of(lat, sheet, leave, tally))
+    Equity::from(best_equity_of(Lattice { n, r }, sheet, leave, tally))
 }
 
 #[unsafe(no_mangle)]
@@ -118,8 +124,7 @@ pub extern "C" fn census_best_equity_table(
 ) -> u8
     ensures { Tabled n r sheet.now leave.now out.old result out.new }
 {
-    let lat = Lattice { n, r };
-    best_equity_table(lat, sheet, leave, out)
+    number(best_equity_table(Lattice { n, r }, sheet, leave, out))
 }
 
 #[unsafe(no_mangle)]
@@ -133,11 +138,10 @@ pub extern "C" fn census_best_keep_of(
     ensures { PlainKeep (leave_number n r leave.now tally.now)
         (best_keep leave.now n tally.now keep) result.number result.value result.rank }
 {
-    let lat = Lattice { n, r };
-    plain_keep(best_keep_of(lat, leave, tally, keep))
+    Leave::from(best_keep_of(Lattice { n, r }, leave, tally, keep))
 }
 
-// The kept tally is written into its slice, where the call is accepted.
+/// The kept tally is written into its slice, where the call is accepted.
 #[unsafe(no_mangle)]
 pub extern "C" fn census_naive_best_equity(
     n: usize,
@@ -149,6 +153,5 @@ pub extern "C" fn census_naive_best_equity(
 ) -> Play
     ensures { PlainPlay n r sheet.now leave.now tally.now «kept».old result.number result.kind result.value «kept».new }
 {
-    let lat = Lattice { n, r };
-    plain_play(naive_best_equity(lat, sheet, leave, tally, kept))
+    Play::from(naive_best_equity(Lattice { n, r }, sheet, leave, tally, kept))
 }

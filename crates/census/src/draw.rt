@@ -1,33 +1,26 @@
-// Draws after keeping a leave.
 ghost use Rattle.std.specs.Prelude.{◌≡◌};
-ghost use Rattle.draws.specs.Draws.{number, value};
+ghost use Rattle.refusal.specs.Refusal.{number_of};
+ghost use Rattle.draws.specs.Draws.{value};
 ghost use Rattle.census.specs.Plain.{PlainDraw};
 
 use crate::best::Equity;
-use draws::{Drawn, dynamic_leave_value};
+use draws::dynamic_leave_value;
 use lattice::Lattice;
+use refusal::{Refusal, number};
 use whole::UNPLAYABLE;
 
-fn plain_draw(answer: Drawn) -> Equity
-    ensures { (result.number ≡ number answer) × (result.value ≡ value answer) }
-{
-    match answer {
-        Drawn::Mean(v) => Equity {
-            number: 0,
-            value: v,
-        },
-        Drawn::NoDraw => Equity {
-            number: 0,
-            value: UNPLAYABLE,
-        },
-        Drawn::Refused(k) => Equity {
-            number: k,
-            value: UNPLAYABLE,
-        },
+impl From<Result<Option<i32>, Refusal>> for Equity {
+    ghost from_gives = { λ answer equity. (equity.number ≡ number_of answer) × (equity.value ≡ value answer) };
+
+    fn from(answer: Result<Option<i32>, Refusal>) -> Equity {
+        Equity {
+            number: number(answer),
+            value: answer.unwrap_or(None).unwrap_or(UNPLAYABLE),
+        }
     }
 }
 
-// UNPLAYABLE also where there is no draw.
+/// UNPLAYABLE also where there is no draw.
 #[unsafe(no_mangle)]
 pub extern "C" fn census_dynamic_leave_value(
     n: usize,
@@ -40,6 +33,6 @@ pub extern "C" fn census_dynamic_leave_value(
 ) -> Equity
     ensures { PlainDraw n r add.now full_v.now pool.now s_ridx draw result.number result.value }
 {
-    let lat = Lattice { n, r };
-    plain_draw(dynamic_leave_value(lat, add, full_v, pool, s_ridx, draw))
+    let answer = dynamic_leave_value(Lattice { n, r }, add, full_v, pool, s_ridx, draw);
+    Equity::from(answer)
 }

@@ -1,8 +1,8 @@
-// Blank variants of placed tiles.
 ghost use Rattle.blanks.specs.Answer.{Outcome};
 
 use blanks::record_blank_variants;
 use lattice::Lattice;
+use refusal::number;
 
 #[unsafe(no_mangle)]
 pub extern "C" fn census_record_blank_variants(
@@ -18,6 +18,13 @@ pub extern "C" fn census_record_blank_variants(
     ensures { Outcome n r sheet.old score letters.old drops.old unseen.now blanks result
         sheet.new letters.new drops.new }
 {
-    let lat = Lattice { n, r };
-    record_blank_variants(lat, sheet, score, letters, drops, unseen, blanks)
+    number(record_blank_variants(
+        Lattice { n, r },
+        sheet,
+        score,
+        letters,
+        drops,
+        unseen,
+        blanks,
+    ))
 }

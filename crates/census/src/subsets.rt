@@ -1,8 +1,8 @@
-// The subset maximum.
 ghost use Rattle.maxima.specs.Answers.{SubsetMaxed};
 
 use lattice::Lattice;
 use maxima::calls::subset_max_transform;
+use refusal::number;
 
 #[unsafe(no_mangle)]
 pub extern "C" fn census_subset_max_transform(
@@ -15,6 +15,5 @@ pub extern "C" fn census_subset_max_transform(
 ) -> u8
     ensures { SubsetMaxed n r add.now by_letter.now src.now dst.old result dst.new }
 {
-    let lat = Lattice { n, r };
-    subset_max_transform(lat, add, by_letter, src, dst)
+    number(subset_max_transform(Lattice { n, r }, add, by_letter, src, dst))
 }

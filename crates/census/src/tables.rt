@@ -1,12 +1,12 @@
-// The tables of ranks with one tile more.
 ghost use Rattle.std.specs.Prelude.{◌+◌, ◌≤◌, length, take, drop};
 ghost use Rattle.lattice.specs.TableCalls.{AddFilled, ByLetterFilled, LetterPart};
 
 use lattice::Lattice;
+use refusal::number;
 
-// A part of a lent slice: where it starts, and how many entries it has.
+/// A part of a lent slice: where it starts, and how many entries it has.
 #[repr(C)]
-#[derive(Clone, Copy)]
+#[derive(Clone, Copy, Debug, PartialEq, Eq, Hash)]
 pub struct Part {
     pub start: usize,
     pub len: usize,
@@ -16,8 +16,7 @@ pub struct Part {
 pub extern "C" fn census_fill_add(n: usize, r: usize, add: &mut [u32]) -> u8
     ensures { AddFilled n r add.old result add.new }
 {
-    let lat = Lattice { n, r };
-    lat.fill_add(add)
+    number(Lattice { n, r }.fill_add(add))
 }
 
 #[unsafe(no_mangle)]
@@ -29,18 +28,17 @@ pub extern "C" fn census_fill_by_letter(
 ) -> u8
     ensures { ByLetterFilled n r add.now by_letter.old result by_letter.new }
 {
-    let lat = Lattice { n, r };
-    lat.fill_by_letter(add, by_letter)
+    number(Lattice { n, r }.fill_by_letter(add, by_letter))
 }
 
-// The ranks of one letter as a part of the table: no entries where refused, or where the table is empty.
+/// The ranks of one letter as a part of the table: no entries where refused, or where the table is
+/// empty.
 #[unsafe(no_mangle)]
 pub extern "C" fn census_letter(n: usize, r: usize, by_letter: &[u32], t: usize) -> Part
     ensures { (result.start + result.len ≤ length by_letter.now)
         × LetterPart n r by_letter.now t (take result.len (drop result.start by_letter.now)) }
 {
-    let lat = Lattice { n, r };
-    let part = lat.letter(by_letter, t);
+    let part = Lattice { n, r }.letter(by_letter, t);
     let len = part.len();
     if len == 0 {
         return Part { start: 0, len: 0 };

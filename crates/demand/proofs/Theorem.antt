@@ -7,7 +7,7 @@ use Rattle.laws.specs.Every.{every_weaken}
 use Rattle.laws.specs.Sums.{integers, sum_cong, sum_cong_on}
 use Rattle.whole.specs.Whole.{whole, Small}
 use Rattle.whole.proofs.Quotient.{quotient_cut}
-use Rattle.lattice.specs.Binomial.{binomial}
+use Rattle.binomials.specs.Binomial.{binomial}
 use Rattle.lattice.specs.Tally.{total, rank_of}
 use Rattle.lattice.specs.Tallies.{Fits}
 use Rattle.hands.specs.Hands.{rack_of, ways, holds, holding, hand_sum, tallies_every}

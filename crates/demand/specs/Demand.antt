@@ -1,5 +1,5 @@
 -- The claim over all boards, roads and leaves: what a board, a road and a leave's sum and count are, when a call has taken a board by a road, and what
--- it then leaves. Document 01's sentences stand in quotes. Assumes nothing.
+-- it then leaves. Sentences of docs/SCOPE.md, "Sums over hands", stand in quotes. Assumes nothing.
 use Rattle.std.specs.Prelude.{◌≡◌, true, List, [], ◌∷◌, ℕ, ◌<◌, T, Float, ℤ, pos, ◌+ℤ◌, length, get_or, ◌≤ℤ◌}
 use Rattle.std.specs.Float.{nan, binary64}
 use Rattle.std.specs.Float.Ieee.{div, to_signed}
@@ -17,7 +17,7 @@ use Rattle.fused.specs.Answer.{input, lent, in_force, Fused}
 use Rattle.fused.specs.declared.mode.Mode.{Mode}
 use Rattle.table_sums.specs.Table.{best_at, Apportioned}
 
--- "A board is a lattice, pool, sheet and leave"
+-- a board is "a lattice, a pool, a sheet, a leave table"
 pub record Board : Type 0 where
   pub n : ℕ
   pub r : ℕ
@@ -44,7 +44,7 @@ greatest f (x ∷ xs) = greatest_from (f x) f xs
 module _ (b : Board) where
   open b use {n, r, pool, sheet, leave}
 
-  -- a parting "is worth sheet at the rank of the played tally plus leave at that of the kept"
+  -- a parting "is worth the sheet at the rank of the played tally plus the leave table at that of the kept"
   abbrev pub worth : Parting → ℤ
   worth p = at_ℤ sheet (rank_of n (rack_of n p.0)) +ℤ at_ℤ leave (rank_of n (rack_of n p.1))
 
@@ -62,11 +62,11 @@ module _ (b : Board) where
 
   -- ---- the premises
 
-  -- "A best table is true if it has the best split at each drawable full rack"
+  -- "A table of bests is true if it has the best split at each drawable full rack"
   abbrev pub TrueBest : List ℤ → Type 0
   TrueBest best = (R : List ℕ) → Fits n r R → T (holds pool R) → best_at n best R ≡ best_split sheet leave n R
 
-  -- "leave_max matters only with scatter in force, and is true if it is leave's subset maximum"; with null_leave no leave is worth anything
+  -- "leave_max matters only where scatter is in force, and is true if it is leave's subset maximum"; with null_leave no leave is worth anything
   pub record TrueFused (mode : Mode) (leave_max : List ℤ) : Type 0 where
     pub is_max : in_force mode ≡ true → SubsetMax n r leave leave_max
     pub no_leave : mode.null_leave ≡ true → (i : ℕ) → at_ℤ leave i ≡ pos 0
@@ -106,7 +106,7 @@ module _ (b : Board) where
     pub count : den ≡ whole (pos (count_of m))
     pub quotient : 0 < count_of m → to_signed 63 (div binary64 num den) ≡ quot_z (sum_of m) (pos (count_of m))
 
--- "one claim over all boards, roads and leaves"
+-- "The one claim"
 abbrev pub Demand : Type 0
 Demand =
     (b : Board) (road : Road) → Premises b road

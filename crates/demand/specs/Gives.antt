@@ -2,7 +2,7 @@
 use Rattle.std.specs.Prelude.{◌≡◌, List, ℕ, ◌*◌, ◌^◌, ◌≤◌, ◌<◌, T, Float, ℤ, pos, nat_abs, length, get_or}
 use Rattle.std.specs.Float.{nan}
 use Rattle.whole.specs.Whole.{whole}
-use Rattle.lattice.specs.Binomial.{binomial}
+use Rattle.binomials.specs.Binomial.{binomial}
 use Rattle.lattice.specs.Tally.{total, rank_of}
 use Rattle.lattice.specs.Tallies.{Fits}
 use Rattle.hands.specs.Hands.{holds, hand_sum, hand_count}

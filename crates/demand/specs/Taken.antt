@@ -13,7 +13,7 @@ use Rattle.laws.specs.Integer.{at_ℤ, max_ℤ}
 use Rattle.laws.specs.Lists.{upto, concat_map}
 use Rattle.whole.specs.Whole.{whole}
 use Rattle.lattice.specs.Answers.{served}
-use Rattle.lattice.specs.Binomial.{binomial}
+use Rattle.binomials.specs.Binomial.{binomial}
 use Rattle.lattice.specs.Leaves.{AddTable}
 use Rattle.lattice.specs.Tally.{total, tallies, lattice, start, within, rank_of, add_tile, minus, parts, total_one}
 use Rattle.lattice.specs.Parts.{Within-refl, parts_all}

@@ -15,45 +15,24 @@ use Rattle.laws.specs.Sums.{naturals, integers, sum_over, sum_in, sum_map, sum_c
 use Rattle.whole.specs.Whole.{whole}
 use Rattle.whole.specs.Mean.{unplayable, mean, Ratio}
 use Rattle.whole.proofs.Means.{mean_in_range}
-use Rattle.lattice.specs.Binomial.{binomial}
+use Rattle.binomials.specs.Binomial.{binomial}
 use Rattle.lattice.specs.Tally.{total, lattice, tally_at, start, rank_of, start_suc}
 use Rattle.lattice.specs.Lattice.{length_lattice}
 use Rattle.lattice.specs.Rank.{rank_at, at_fits}
 use Rattle.lattice.specs.Served.{facts}
 use Rattle.lattice.specs.Answers.{served, len_answer}
-use Rattle.lattice.specs.declared.Ranked.TheVariants.{At, Refused as Refuse}
 use Rattle.hands.specs.Hands.{hands, hands_count}
-use Rattle.sums.specs.Weight.{weight_of}
 use Rattle.draws.specs.declared.walk.Totals.{Totals}
-use Rattle.draws.specs.declared.Drawn.{Drawn}
-use Rattle.draws.specs.declared.Drawn.TheVariants.{Mean, NoDraw, Refused}
-use Rattle.draws.specs.Draws.{rack_after, best_after, draw_count, draw_sum, draw_most, maxima, largest, if_any, Limit, Passed, Judged, DrawNumber, given, draw_mean, drawn, Valued}
+use Rattle.std.specs.Prelude.{Ok, Err, Some, None}
+use Rattle.refusal.specs.Refusal.{number_of}
+use Rattle.refusal.specs.declared.Refusal.{Refusal}
+use Rattle.refusal.specs.declared.Refusal.TheVariants.{Sizes, Length, Letter, Range, Entry, Ranks, Scatter, NotClear, Weight}
+use Rattle.draws.specs.Draws.{Drawn, rack_after, best_after, draw_count, draw_sum, draw_most, maxima, largest, if_any, Limit, Passed, Judged, DrawNumber, given, draw_mean, drawn, Valued}
 use Rattle.draws.specs.Draws.DrawNumber.{limit, accepted}
 use Rattle.draws.specs.Walk.{factor, product, met, totals, gains, Gathered}
 use Rattle.draws.specs.Walking.{Walking}
 use Rattle.draws.specs.Racks.{part, sum_draws}
 use Rattle.draws.specs.Exact.{as_float, rank, met_exact, met_ways, met_ranks, gains_most, ways_of, bests_of, bests_spread, Sized, gains_exact}
-
--- ---- W, as far as an f64 holds it, tells whether W times M is within the limit
-module _ (tiles d M : ℕ) (some : 0 < M) where
-  pub limit_yes : weight_of tiles d * M ≤ 2 ^ 53 → binomial tiles d * M ≤ 2 ^ 53
-  unfolding weight_of
-  limit_yes h = go (dec_le (binomial tiles d) 9007199254740993)
-    where
-      go : Dec (binomial tiles d ≤ 9007199254740993) → binomial tiles d * M ≤ 2 ^ 53
-      go (yes l) = le_trans (le_of_eq (ap (λ (k : ℕ). k * M) (sym (min-eq_left l)))) h
-      go (no l) =
-          let over : 9007199254740993 ≤ binomial tiles d = omega arith in
-          let e : min (binomial tiles d) 9007199254740993 ≡ 9007199254740993 = min-eq_right over in
-          absurd (omega (arith, ap (λ (k : ℕ). k * M) e))
-
-  pub limit_no : binomial tiles d * M ≤ 2 ^ 53 → weight_of tiles d * M ≤ 2 ^ 53
-  unfolding weight_of
-  limit_no h = le_trans (mul-le-mul_right M (min-le_left (binomial tiles d) 9007199254740993)) h
-
-pub weight_some : (tiles d : ℕ) → binomial tiles d ≤ 2 ^ 53 → weight_of tiles d ≡ binomial tiles d
-unfolding weight_of
-weight_some tiles d h = min-eq_left (omega arith)
 
 -- ---- lists
 every_of_map : {A B : Type 0} {P : B → Type 0} (h : A → B) (xs : List A) → Every P (map h xs) → Every (λ x. P (h x)) xs
@@ -207,20 +186,20 @@ module _ {n r : ℕ} {add : List ℕ} {full : List ℤ} {pool : List ℕ} {i d :
 
     -- ---- the answer
 
-    pub answer_limit : (weight_of (total pool) d * b.most ≤ 2 ^ 53 → ⊥) → Valued n r add full pool i d (Refused 9)
+    pub answer_limit : (binomial (total pool) d * b.most ≤ 2 ^ 53 → ⊥) → Valued n r add full pool i d (Err Weight)
     answer_limit h = record {
-      numbered = limit p.sizes p.lengths p.fills p.table (λ l. h (limit_no (total pool) d b.most (omega (arith, most_some)) (rw most_is l.within)));
+      numbered = limit p.sizes p.lengths p.fills p.table (λ l. h (rw most_is l.within));
       valued = refl;
       is = λ e. absurd (let z : ◌≡◌ {A = ℕ} 9 0 = e in omega arith);
     }
 
-    module _ (h : weight_of (total pool) d * b.most ≤ 2 ^ 53) where
+    module _ (h : binomial (total pool) d * b.most ≤ 2 ^ 53) where
       within_limit : Limit n r full pool i d
-      within_limit = record { within = rw most_is at (limit_yes (total pool) d b.most (omega (arith, most_some)) h) }
+      within_limit = record { within = rw most_is at h }
 
-      weight_count : weight_of (total pool) d ≡ draw_count pool d
+      weight_count : binomial (total pool) d ≡ draw_count pool d
       unfolding draw_count
-      weight_count = weight_some (total pool) d (all_small within_limit) ∙ sym (hands_count pool d)
+      weight_count = sym (hands_count pool d)
 
       -- the answer is that of so many draws
       answered : {x : Drawn} → x ≡ drawn (draw_sum n r full pool i d) (draw_count pool d) → Valued n r add full pool i d x
@@ -233,48 +212,51 @@ module _ {n r : ℕ} {add : List ℕ} {full : List ℤ} {pool : List ℕ} {i d :
           go zero e = record { numbered = yes_limit; valued = ap (mean (draw_sum n r full pool i d)) (sym e); is = λ z. ap (drawn (draw_sum n r full pool i d)) (sym e) }
           go (suc k) e = record { numbered = yes_limit; valued = ap (mean (draw_sum n r full pool i d)) (sym e); is = λ z. ap (drawn (draw_sum n r full pool i d)) (sym e) }
 
-      pub answer_none : weight_of (total pool) d ≡ 0 → Valued n r add full pool i d NoDraw
+      pub answer_none : binomial (total pool) d ≡ 0 → Valued n r add full pool i d (Ok None)
       answer_none z = answered (sym (ap (drawn (draw_sum n r full pool i d)) (sym weight_count ∙ z)))
 
       pub code_ratio : Ratio b.num b.den
       code_ratio = ratio within_limit
 
-      pub answer_mean : {v : ℤ} → (weight_of (total pool) d ≡ 0 → ⊥) → v ≡ mean code_ratio.top code_ratio.bottom → Valued n r add full pool i d (Mean v)
+      pub answer_mean : {v : ℤ} → (binomial (total pool) d ≡ 0 → ⊥) → v ≡ mean code_ratio.top code_ratio.bottom → Valued n r add full pool i d (Ok (Some v))
       unfolding code_ratio ratio
-      answer_mean {v} any e = answered (ap Mean e ∙ go (draw_count pool d) (λ z. any (weight_count ∙ z)))
+      answer_mean {v} any e = answered (ap (λ x. Ok (Some x)) e ∙ go (draw_count pool d) (λ z. any (weight_count ∙ z)))
         where
-          go : (k : ℕ) → (k ≡ 0 → ⊥) → Mean (mean (draw_sum n r full pool i d) k) ≡ drawn (draw_sum n r full pool i d) k
+          go : (k : ℕ) → (k ≡ 0 → ⊥) → Ok (Some (mean (draw_sum n r full pool i d) k)) ≡ drawn (draw_sum n r full pool i d) k
           go zero f = absurd (f refl)
           go (suc k) f = refl
 
--- a number of what is judged before
+-- too many draws for any best
+pub answer_heavy : {n r : ℕ} {add : List ℕ} {full : List ℤ} {pool : List ℕ} {i d : ℕ} → Passed n r add full pool i d → (binomial (total pool) d ≤ 2 ^ 53 → ⊥) → Valued n r add full pool i d (Err Weight)
+unfolding draw_most
+answer_heavy {n} {r} {add} {full} {pool} {i} {d} p f = record {
+  numbered = limit p.sizes p.lengths p.fills p.table (λ l. f (le_trans (le_of_eq (sym (mul-one (binomial (total pool) d)))) (le_trans (mul-le-mul_left (binomial (total pool) d) (omega arith)) l.within)));
+  valued = refl;
+  is = λ e. absurd (let z : ◌≡◌ {A = ℕ} 9 0 = e in omega arith);
+}
+
+-- an answer of what is judged before
 pub judged_no : {n r : ℕ} {add : List ℕ} {full : List ℤ} {pool : List ℕ} {i d : ℕ} (k : ℕ) → DrawNumber n r add full pool i d (suc k) → Judged n r add full pool i d (suc k)
 judged_no k h = record { refused = λ f. h; passed = λ e. absurd (omega arith) }
 
 pub judged_yes : {n r : ℕ} {add : List ℕ} {full : List ℤ} {pool : List ℕ} {i d : ℕ} → Passed n r add full pool i d → Judged n r add full pool i d 0
 judged_yes p = record { refused = λ f. absurd (f refl); passed = λ e. p }
 
-pub answer_refused : {n r : ℕ} {add : List ℕ} {full : List ℤ} {pool : List ℕ} {i d k : ℕ} → Judged n r add full pool i d k → (k ≡ 0 → ⊥) → Valued n r add full pool i d (Refused k)
-answer_refused {n} {r} {add} {full} {pool} {i} {d} {k} j f = record { numbered = j.refused f; valued = go k f; is = λ e. absurd (f e) }
+-- a refusal has a number
+some_number : (e : Refusal) → number_of {A = Unit} (Err e) ≡ 0 → ⊥
+some_number Sizes z = omega arith
+some_number Length z = omega arith
+some_number Letter z = omega arith
+some_number Range z = omega arith
+some_number Entry z = omega arith
+some_number Ranks z = omega arith
+some_number Scatter z = omega arith
+some_number NotClear z = omega arith
+some_number Weight z = omega arith
+
+pub answer_refused : {n r : ℕ} {add : List ℕ} {full : List ℤ} {pool : List ℕ} {i d : ℕ} (e : Refusal) → Judged n r add full pool i d (number_of {A = Unit} (Err e)) → Valued n r add full pool i d (Err e)
+answer_refused {n} {r} {add} {full} {pool} {i} {d} e j = record { numbered = j.refused (some_number e); valued = go (number_of {A = Unit} (Err e)) (some_number e); is = λ z. absurd (some_number e z) }
   where
     go : (k : ℕ) → (k ≡ 0 → ⊥) → unplayable ≡ given k (draw_mean n r full pool i d)
     go zero f = absurd (f refl)
     go (suc k) f = refl
-
--- ---- what the length of the lattice tells of its sizes
-module _ (n r : ℕ) where
-  pub len_served : {k : ℕ} → At k ≡ len_answer n r → (served n r ≡ true) × (k ≡ binomial (n + r) n)
-  unfolding len_answer
-  len_served {k} e = go (served n r) refl e
-    where
-      go : (b : Bool) → served n r ≡ b → At k ≡ cond b (At (binomial (n + r) n)) (Refuse 1) → (served n r ≡ true) × (k ≡ binomial (n + r) n)
-      go true s q = (s, cc)
-      go false s q = absurd (let z : ◌≡◌ {A = ℕ} 0 1 = cc in omega arith)
-
-  pub len_refused : {k : ℕ} → Refuse k ≡ len_answer n r → served n r ≡ false
-  unfolding len_answer
-  len_refused {k} e = go (served n r) refl e
-    where
-      go : (b : Bool) → served n r ≡ b → Refuse k ≡ cond b (At (binomial (n + r) n)) (Refuse 1) → served n r ≡ false
-      go true s q = absurd (let z : ◌≡◌ {A = ℕ} 0 1 = cc in omega arith)
-      go false s q = s

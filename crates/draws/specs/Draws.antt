@@ -1,19 +1,19 @@
--- Draws after keeping a leave (document 01, "Draws"): what a call answers, for every input. The pool excludes the leave; a draw is a hand
+-- Draws after keeping a leave (docs/SCOPE.md, "Draws"): what a call answers, for every input. The pool excludes the leave; a draw is a hand
 -- of the pool. Assumes nothing.
-use Rattle.std.specs.Prelude.{◌≡◌, refl, true, false, List, ℕ, zero, suc, ◌+◌, ◌*◌, ◌^◌, ◌≤◌, ◌<◌, max, ℤ, pos, nat_abs, length}
+use Rattle.std.specs.Prelude.{◌≡◌, refl, true, false, List, ℕ, zero, suc, ◌+◌, ◌*◌, ◌^◌, ◌≤◌, ◌<◌, max, ℤ, pos, nat_abs, length, Option, Some, None, Result, Ok, Err}
 use Rattle.std.proofs.Math.Nat.{zero-max, max_comm}
 use Rattle.std.proofs.Common.{arith}
 use Rattle.std.specs.Int.Signed.{quot_z}
 use Rattle.laws.specs.Integer.{at_ℤ}
 use Rattle.laws.specs.Sums.{Additive, sum_in, sum_over_ℤ}
 use Rattle.whole.specs.Mean.{unplayable, mean}
-use Rattle.lattice.specs.Binomial.{binomial}
+use Rattle.binomials.specs.Binomial.{binomial}
 use Rattle.lattice.specs.Tally.{total, tally_at, start, rank_of, plus}
 use Rattle.lattice.specs.Answers.{served}
 use Rattle.lattice.specs.Leaves.{AddTable}
 use Rattle.hands.specs.Hands.{Tile, hands, rack_of}
-use Rattle.draws.specs.declared.Drawn.{Drawn}
-use Rattle.draws.specs.declared.Drawn.TheVariants.{Mean, NoDraw, Refused}
+use Rattle.refusal.specs.Refusal.{number_of}
+use Rattle.refusal.specs.declared.Refusal.{Refusal}
 
 -- ---- the draws
 
@@ -100,16 +100,15 @@ pub data DrawNumber (n r : ℕ) (add : List ℕ) (full : List ℤ) (pool : List 
 
 -- ---- the answer
 
--- document 01's number of an answer, and its left column
-abbrev pub number : Drawn → ℕ
-number (Mean v) = 0
-number NoDraw = 0
-number (Refused k) = k
+-- the mean, none where there is no draw, or why the call is refused
+abbrev pub Drawn : Type 0
+Drawn = Result (Option ℤ) Refusal
 
+-- what the plain layer gives
 abbrev pub value : Drawn → ℤ
-value (Mean v) = v
-value NoDraw = unplayable
-value (Refused k) = unplayable
+value (Ok (Some v)) = v
+value (Ok None) = unplayable
+value (Err refusal) = unplayable
 
 -- v where no refusal applies, and UNPLAYABLE otherwise
 abbrev pub given : ℕ → ℤ → ℤ
@@ -118,14 +117,14 @@ given (suc k) v = unplayable
 
 -- the answer to a sum over so many draws
 abbrev pub drawn : ℤ → ℕ → Drawn
-drawn sum zero = NoDraw
-drawn sum (suc k) = Mean (quot_z sum (pos (suc k)))
+drawn sum zero = Ok None
+drawn sum (suc k) = Ok (Some (quot_z sum (pos (suc k))))
 
 -- what a call answers
 pub record Valued (n r : ℕ) (add : List ℕ) (full : List ℤ) (pool : List ℕ) (i d : ℕ) (b : Drawn) : Type 0 where
-  pub numbered : DrawNumber n r add full pool i d (number b)
-  pub valued : value b ≡ given (number b) (draw_mean n r full pool i d)
-  pub is : number b ≡ 0 → b ≡ drawn (draw_sum n r full pool i d) (draw_count pool d)
+  pub numbered : DrawNumber n r add full pool i d (number_of b)
+  pub valued : value b ≡ given (number_of b) (draw_mean n r full pool i d)
+  pub is : number_of b ≡ 0 → b ≡ drawn (draw_sum n r full pool i d) (draw_count pool d)
 
 -- what the call has judged before it walks over the draws
 pub record Passed (n r : ℕ) (add : List ℕ) (full : List ℤ) (pool : List ℕ) (i d : ℕ) : Type 0 where

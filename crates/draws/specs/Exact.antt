@@ -18,7 +18,7 @@ use Rattle.laws.specs.Sums.{sum_over, sum_over_ℤ}
 use Rattle.whole.specs.Whole.{whole}
 use Rattle.whole.proofs.Steps.{add_whole, add_mul_whole, mul_whole_nat, small_i32}
 use Rattle.whole.proofs.Bounds.{Spread, spread_zero, spread_add, spread_mul}
-use Rattle.lattice.specs.Binomial.{binomial, binomial_zero, positive}
+use Rattle.binomials.specs.Binomial.{binomial, binomial_zero, positive}
 use Rattle.lattice.specs.Tally.{total, total_nil, total_cons}
 use Rattle.lattice.specs.Tallies.{tallies_all}
 use Rattle.hands.proofs.Hands.{ways_le}

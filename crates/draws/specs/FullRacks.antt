@@ -6,7 +6,7 @@ use Rattle.std.proofs.Math.ListN.{length}
 use Rattle.laws.specs.Integer.{at_ℤ}
 use Rattle.laws.specs.Every.{Every, every_weaken, every_member}
 use Rattle.laws.specs.Sums.{naturals, sum_over, sum_over_ℤ, bit, sum_none, sum_cong_on, sum_member}
-use Rattle.lattice.specs.Binomial.{binomial}
+use Rattle.binomials.specs.Binomial.{binomial}
 use Rattle.lattice.specs.Tally.{total, tallies, lattice, tally_at, rank_of, plus}
 use Rattle.lattice.specs.Tallies.{Fits}
 use Rattle.lattice.specs.Lattice.{length_lattice}

@@ -9,7 +9,7 @@ use Rattle.std.proofs.Math.ListN.{length, length-append}
 use Rattle.laws.specs.Lists.{upto}
 use Rattle.laws.specs.Every.{every_weaken}
 use Rattle.laws.specs.Sums.{Additive, sum_in, plus_none, times_one, times_none, mul_times, sum_cong, sum_cong_on, sum_times, sum_concat_map, sum_upto_suc}
-use Rattle.lattice.specs.Binomial.{binomial, binomial_above}
+use Rattle.binomials.specs.Binomial.{binomial, binomial_above}
 use Rattle.lattice.specs.Tally.{total, tallies, rank_of, add_tile, add_tile_is, plus, total_cons}
 use Rattle.lattice.specs.Tallies.{tallies_empty, tallies_too_many}
 use Rattle.lattice.specs.Step.{total_append}

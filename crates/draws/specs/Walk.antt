@@ -12,7 +12,7 @@ use Rattle.laws.specs.Integer.{at_ℤ}
 use Rattle.laws.specs.Lists.{upto, upto_zero, upto_suc, concat_map, concat_map_one, concat_map_append}
 use Rattle.laws.specs.Every.{Every, every_nil, every_cons, every_append}
 use Rattle.whole.specs.Whole.{whole}
-use Rattle.lattice.specs.Binomial.{binomial, binomial_zero}
+use Rattle.binomials.specs.Binomial.{binomial, binomial_zero}
 use Rattle.lattice.specs.Tally.{total, total_cons}
 use Rattle.lattice.specs.Tables.{up}
 use Rattle.draws.specs.declared.walk.Totals.{Totals}

@@ -1,44 +1,38 @@
--- What the functions use: the rank that is told of a tally that has one, and a tile that is put on and taken back. Assumes nothing.
+-- What the functions use: where the letters end, and a tile that is put on and taken back. Assumes nothing.
 use mathlib.Core.Path.{◌≡◌, refl, sym, ap, ap₂, ◌∙◌, subst}
 use mir.Syntax.{w8}
 use mir.Val.{Fits}
-use mathlib.Core.Bool.{Bool, true, false}
+use mathlib.Core.Bool.{true}
 use native.Mathlib.Decide.{dec_lt}
 use mathlib.Core.List.{List, [], ◌∷◌}
 use Prim.Native.Nat.{ℕ, zero, suc, ◌+◌, ◌-◌, ◌≤◌, ◌<◌}
 use native.Mathlib.Omega.{arith}
-use borrow.Author.Tests.{le-leb}
-use lib.Dec.{T}
 use lib.ListN.{length, get_or, set, length-set}
 use Rattle.lattice.specs.Tally.{total, rank_of, start, add_tile_is, start_suc}
 use Rattle.lattice.specs.Rank.{total_add_tile, rank_from, rank_to}
-use Rattle.lattice.specs.Answers.{served, rank_within, TallyAt}
+use Rattle.lattice.specs.Answers.{served, TallyAt}
 use Rattle.lattice.specs.Served.{facts}
-use Rattle.lattice.specs.Binomial.{binomial}
+use Rattle.binomials.specs.Binomial.{binomial}
 use Rattle.lattice.specs.Tallies.{start_mono}
-use Rattle.lattice.specs.declared.Ranked.{Ranked}
-use Rattle.lattice.specs.declared.Ranked.TheVariants.{At, Refused}
 use Rattle.lattice.proofs.Counts.{get_or_le_total}
-use Rattle.extensions.specs.Extensions.{stop_of, extension}
+use Rattle.extensions.specs.Extensions.{stop_of, extension, stop_none, stop_tile, stop_low, stop_high}
 use Rattle.extensions.specs.Racks.{Leave}
 
-abbrev rank_in : Ranked → ℕ
-rank_in (At k) = k
-rank_in (Refused k) = 0
+-- the letters end after the last one that is there
+pub stop_after : (t : List ℕ) (last : ℕ) → last < length t → (get_or t last 0 ≡ 0 → ⊥) → ((j : ℕ) → last < j → j < length t → get_or t j 0 ≡ 0) → last + 1 ≡ stop_of t
+stop_after t last inside here after = go (dec_lt last (stop_of t)) (dec_lt (last + 1) (stop_of t))
+  where
+    go : Dec (last < stop_of t) → Dec (last + 1 < stop_of t) → last + 1 ≡ stop_of t
+    go (no low) q = absurd (here (stop_none t last (omega arith)))
+    go (yes low) (yes high) = absurd (stop_tile t (omega arith) (after (stop_of t - 1) (omega arith) (omega (arith, stop_high t))))
+    go (yes low) (no high) = omega arith
 
-abbrev is_at : Ranked → Bool
-is_at (At k) = true
-is_at (Refused k) = false
-
-module _ {r : ℕ} (t : List ℕ) (e : total t ≤ r) where
-  accepted : rank_within (length t) r t ≡ At (rank_of (length t) t)
-  accepted = rw (le-leb (total t) r e)
-
-  pub rank_told : {j : ℕ} → At j ≡ rank_within (length t) r t → j ≡ rank_of (length t) t
-  rank_told q = ap rank_in (q ∙ accepted)
-
-  pub rank_there : {j : ℕ} → Refused j ≡ rank_within (length t) r t → ⊥
-  rank_there q = subst T (sym (ap is_at (q ∙ accepted))) tt
+pub stop_alone : (t : List ℕ) → 0 < length t → ((j : ℕ) → j < length t → get_or t j 0 ≡ 0) → 1 ≡ stop_of t
+stop_alone t some none = go (dec_lt 1 (stop_of t))
+  where
+    go : Dec (1 < stop_of t) → 1 ≡ stop_of t
+    go (yes high) = absurd (stop_tile t high (none (stop_of t - 1) (omega (arith, stop_high t))))
+    go (no high) = omega (arith, stop_low t some)
 
 added_last : (t : List ℕ) → set t (length t - 1) (get_or t (length t - 1) 0 + 1) ≡ extension t 0
 added_last t =
@@ -59,9 +53,6 @@ module _ (n r rank : ℕ) (e : served n r ≡ true) (low : start n (r - 1) ≤ r
   pub rank_inside : rank < binomial (r + n) n
   rank_inside = let m : start n r ≤ start n (suc r) = start_mono n (omega arith) in omega (arith, start_suc n r)
 
-  pub leave_letters : 0 < n
-  leave_letters = (facts n r e).some_letter
-
   pub leave_tiles : {t : List ℕ} → TallyAt n r rank t → suc (total t) ≡ r
   leave_tiles {t} a = go (dec_lt (total t) r) (dec_lt (total t) (r - 1))
     where
@@ -76,9 +67,6 @@ module _ (n r rank : ℕ) (e : served n r ≡ true) (low : start n (r - 1) ≤ r
       go (yes h) (yes l) = absurd (let m : start n (suc (total t)) ≤ start n (r - 1) = start_mono n (omega arith) in omega (arith, to))
       go (yes h) (no l) = omega arith
 
-  pub leave_served : {t : List ℕ} → TallyAt n r rank t → served (length t) r ≡ true
-  leave_served a = ap (λ (k : ℕ). served k r) a.letters ∙ e
-
   pub leave_made : {t u : List ℕ} {stop first : ℕ} → TallyAt n r rank t → stop ≡ stop_of t → (first ≡ rank_of (length t) (extension t 0)) × (u ≡ t) → Leave n r rank u stop first
   leave_made {t} {stop = stop} {first} a p q =
       subst (λ (v : List ℕ). Leave n r rank v stop first) (sym q.1)
@@ -91,9 +79,6 @@ module _ {r : ℕ} (t : List ℕ) (e : served (length t) r ≡ true) (q : suc (t
 
   abbrev put : List ℕ
   put = set t (length t - 1) (get_or t (length t - 1) 0 + 1)
-
-  pub added_served : served (length put) r ≡ true
-  added_served = ap (λ (k : ℕ). served k r) (length-set t (length t - 1) (get_or t (length t - 1) 0 + 1)) ∙ e
 
   pub added_tiles : total put ≤ r
   added_tiles = omega (arith, ap total (added_last t), total_last t (facts (length t) r e).some_letter)

@@ -10,7 +10,7 @@ use Rattle.std.proofs.Math.ListN.{length, get_or}
 use Rattle.std.proofs.Math.Seq.{take-length}
 use Rattle.lattice.specs.Answers.{served}
 use Rattle.lattice.specs.Served.{facts, starts_small}
-use Rattle.lattice.specs.Binomial.{binomial, binomial_self}
+use Rattle.binomials.specs.Binomial.{binomial, binomial_self}
 use Rattle.lattice.specs.Tally.{total, start, rank_of, add_tile, start_suc}
 use Rattle.lattice.specs.Tallies.{start_mono}
 use Rattle.lattice.specs.Rank.{rank_from, rank_to, rank_injective, length_add_tile, total_add_tile}

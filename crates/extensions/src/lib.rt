@@ -1,4 +1,5 @@
-// The racks that extend a leave by one tile, no earlier than its last letter: they stand side by side in rank order, and each rack is one of them.
+//! The racks that extend a leave by one tile, no earlier than its last letter: they stand side by
+//! side in rank order, and each rack is one of them.
 #![tactic(auto)]
 
 ghost use Rattle.std.specs.Prelude.{◌≡◌, true, suc, ◌-◌, ◌≤◌, ◌<◌, length};
@@ -8,12 +9,13 @@ ghost use Rattle.extensions.specs.Extensions.{stop_of, extension};
 ghost use Rattle.extensions.specs.Racks.{Leave, Walking, Onward};
 ghost use Rattle.runs.specs.Runs.{present};
 
-use lattice::{Ranked, rank_within, unrank_within};
+use lattice::{rank_within, unrank_within};
 use order::next_tally;
 use runs::{letters_of, next_run};
 
-// A leave's letters, where they end, and the rank of the first rack that extends it: that with one tile more of the last letter of all.
-#[derive(Clone, Copy)]
+/// A leave's letters, where they end, and the rank of the first rack that extends it: that with one
+/// tile more of the last letter of all.
+#[derive(Clone, Copy, Debug, PartialEq, Eq)]
 pub struct Extended {
     pub word: u64,
     pub stop: usize,
@@ -25,31 +27,27 @@ fn stop_of(tally: &[u8]) -> usize
     requires { 0 < length tally.now }
     ensures { result ≡ stop_of tally.now }
 {
-    let mut k = tally.len();
-    while 1 < k {
-        if tally[k - 1] != 0 {
-            return k;
-        }
-        k -= 1;
+    match tally.iter().rposition(|&count| count != 0) {
+        Some(last) => last + 1,
+        None => 1,
     }
-    k
 }
 
-// The rank of a tally that has one.
+/// The rank of a tally that has one.
 pub fn rank_of(r: usize, tally: &[u8]) -> usize
-    requires { (served (length tally.now) r ≡ true) × (total tally.now ≤ r) }
+    requires served { served (length tally.now) r ≡ true }
+    requires tiles { total tally.now ≤ r }
     ensures { result ≡ rank_of (length tally.now) tally.now }
 {
-    match rank_within(r, tally) {
-        Ranked::At(k) => k as usize,
-        Ranked::Refused(_) => 0,
-    }
+    rank_within(r, tally).unwrap() as usize
 }
 
 // The rank of a leave with one tile more of the last letter of all.
 fn first_rank(r: usize, tally: &mut [u8]) -> usize
-    requires { (served (length tally.old) r ≡ true) × (suc (total tally.old) ≡ r) }
-    ensures { (result ≡ rank_of (length tally.old) (extension tally.old 0)) × (tally.new ≡ tally.old) }
+    requires served { served (length tally.old) r ≡ true }
+    requires tiles { suc (total tally.old) ≡ r }
+    ensures rank { result ≡ rank_of (length tally.old) (extension tally.old 0) }
+    ensures same { tally.new ≡ tally.old }
 {
     let last = tally.len() - 1;
     let count = tally[last];
@@ -59,31 +57,35 @@ fn first_rank(r: usize, tally: &mut [u8]) -> usize
     rank
 }
 
-// The leave of one tile less than a rack at a rank, unranked into a slice, and the racks that extend it.
+/// The leave of one tile less than a rack at a rank, unranked into a slice, and the racks that
+/// extend it.
 pub fn extend_at(r: usize, rank: usize, tally: &mut [u8]) -> Extended
-    requires { (served (length tally.old) r ≡ true) × (start (length tally.old) (r - 1) ≤ rank) × (rank < start (length tally.old) r) }
-    ensures { Leave (length tally.old) r rank tally.new result.stop result.first × (result.word ≡ present tally.new) }
+    requires served { served (length tally.old) r ≡ true }
+    requires from { start (length tally.old) (r - 1) ≤ rank }
+    requires below { rank < start (length tally.old) r }
+    ensures leave { Leave (length tally.old) r rank tally.new result.stop result.first }
+    ensures word { result.word ≡ present tally.new }
 {
     unrank_within(r, rank as u64, tally);
-    let stop = stop_of(tally);
-    let first = first_rank(r, tally);
-    let word = letters_of(tally);
-    Extended { word, stop, first }
+    Extended {
+        word: letters_of(tally),
+        stop: stop_of(tally),
+        first: first_rank(r, tally),
+    }
 }
 
-// The leave that comes next, and the racks that extend it: they follow those of the leave before.
+/// The leave that comes next, and the racks that extend it: they follow those of the leave before.
 pub fn next_leave(e: Extended, tally: &mut [u8]) -> Extended
-    requires { Walking tally.old e.stop e.first × (e.word ≡ present tally.old) }
-    ensures { Onward tally.old e.stop e.first tally.new result.stop result.first × (result.word ≡ present tally.new) }
+    requires walking { Walking tally.old e.stop e.first }
+    requires word { e.word ≡ present tally.old }
+    ensures onward { Onward tally.old e.stop e.first tally.new result.stop result.first }
+    ensures word { result.word ≡ present tally.new }
 {
     let n = tally.len();
-    let before = e.stop;
-    let first = e.first + (n - before) + 1;
     let word = next_tally(tally, e.word);
-    let run = next_run(tally, word, n);
     Extended {
         word,
-        stop: run.stop,
-        first,
+        stop: next_run(tally, word, n).stop,
+        first: e.first + (n - e.stop) + 1,
     }
 }

@@ -1,11 +1,11 @@
--- What a call of apportion_fused answers, for every input, and what it leaves in each slice. Document 01's sentences stand in quotes. Assumes nothing.
+-- What a call of apportion_fused answers, for every input, and what it leaves in each slice. Assumes nothing.
 use Rattle.std.specs.Prelude.{ℕ, ◌+◌, ◌-◌, ◌*◌, ◌^◌, ◌≤◌, max, Bool, true, false, cond, not, ◌&&◌, List, ◌⊎◌, ◌≡◌, Float, ℤ, pos, length, get_or, ◌≤ℤ◌}
 use Rattle.std.specs.Float.{nan}
 use Rattle.std.proofs.Common.{arith}
 use Rattle.laws.specs.Integer.{at_ℤ}
 use Rattle.whole.specs.Whole.{whole}
 use Rattle.lattice.specs.Answers.{served}
-use Rattle.lattice.specs.Binomial.{binomial}
+use Rattle.binomials.specs.Binomial.{binomial}
 use Rattle.lattice.specs.TableCalls.{Tables}
 use Rattle.lattice.specs.Tally.{total, tallies, lattice, start, rank_of, parts}
 use Rattle.lattice.specs.Tallies.{Fits}
@@ -46,11 +46,11 @@ lent num den deals maxsheet = record { num = num; den = den; deals = deals; maxs
 
 -- ---- the best that a mode takes for a full rack
 
--- "With null_leave and zeta, best is the subset maximum of sheet alone"
+-- with zeta and null_leave the best is the subset maximum of sheet alone
 abbrev pub sheet_alone : Mode → Bool
 sheet_alone m = m.zeta && m.null_leave
 
--- "Scatter is in force where scatter and zeta are set and null_leave is not"
+-- scatter is in force where scatter and zeta are set and null_leave is not
 abbrev pub in_force : Mode → Bool
 in_force m = (m.scatter && m.zeta) && not m.null_leave
 
@@ -58,7 +58,7 @@ in_force m = (m.scatter && m.zeta) && not m.null_leave
 unfoldable pub subset_best : List ℤ → ℕ → List ℕ → ℤ
 subset_best sheet n R = best_of (λ P. at_ℤ sheet (rank_of n P)) (parts R)
 
--- the subset maximum of sheet, or "with scatter and zeta and no null_leave" the scatter, "otherwise it is the best split"
+-- the subset maximum of sheet, or the scatter where that is in force, otherwise the best split
 unfoldable pub mode_best : Input → List ℕ → ℤ
 mode_best g R =
     cond (sheet_alone g.mode) (subset_best g.sheet g.n R)
@@ -66,7 +66,7 @@ mode_best g R =
 
 -- ---- what each refusal is about
 
--- 2, "a slice of wrong length; leave_max counts only in scatter": of those that are read
+-- 2, a slice of wrong length, of those that are read: leave_max counts only where scatter is in force
 pub record ReadLengths (g : Input) : Type 0 where
   pub in_add : length g.add ≡ start g.n g.r * g.n
   pub in_by_letter : (length g.by_letter ≡ 0) ⊎ (length g.by_letter ≡ start g.n g.r * g.n)
@@ -86,16 +86,16 @@ pub record Lengths (g : Input) (o : Lent) : Type 0 where
   pub read : ReadLengths g
   pub written : LentLengths g.n g.r o
 
--- 5, "a sheet or leave entry .. beyond ±536,870,911"; "full-table and fused calls depend on all entries"
+-- 5, an entry of sheet or leave beyond ±536,870,911: the call depends on all of them
 pub record Entries (g : Input) : Type 0 where
   pub sheet_bound : Bounded 536870911 g.sheet
   pub leave_bound : Bounded 536870911 g.leave
 
--- 6, "an add or letter table differs from its rule"
+-- 6, a table of ranks that is not its lattice's
 abbrev pub Ranks : Input → Type 0
 Ranks g = Tables g.n g.r g.add g.by_letter
 
--- 7, "scatter in force: sheet negative, sheet[0] not 0, or leave_max not leave's subset maximum"
+-- 7, where scatter is in force: an entry of sheet is negative, the first is not 0, or leave_max is not leave's subset maximum
 pub record WordSheet (sheet : List ℤ) : Type 0 where
   pub nonnegative : (i : ℕ) → pos 0 ≤ℤ at_ℤ sheet i
   pub no_tiles : at_ℤ sheet 0 ≡ pos 0
@@ -107,17 +107,17 @@ pub record Words (n r : ℕ) (sheet leave leave_max : List ℤ) : Type 0 where
 abbrev pub Scatters : Input → Type 0
 Scatters g = in_force g.mode ≡ true → Words g.n g.r g.sheet g.leave g.leave_max
 
--- 8, "num, den or ways not +0.0"
+-- 8, num, den or ways is not +0.0 throughout
 pub record Cleared (num den deals : List Float) : Type 0 where
   pub clear_num : Clear num
   pub clear_den : Clear den
   pub clear_deals : Clear deals
 
--- "M is at least 16. Fused: largest absolute sheet plus largest absolute leave"
+-- M: the largest size of an entry of sheet plus that of an entry of leave, and at least 16
 abbrev pub most : Input → ℕ
 most g = max 16 (largest g.sheet + largest g.leave)
 
--- 9, "W × M over 9,007,199,254,740,992", where "W is C(tiles in pool, r)"
+-- 9, W × M over 9,007,199,254,740,992, where W is C(tiles in the pool, r)
 pub record Limit (g : Input) : Type 0 where
   pub within : binomial (total g.pool) g.r * most g ≤ 2 ^ 53
 
@@ -136,7 +136,7 @@ pub record Accepted (g : Input) (o : Lent) : Type 0 where
   pub lengths : LentLengths g.n g.r o
   pub cleared : Cleared o.num o.den o.deals
 
--- "The lowest number that applies is given", 0 where none does
+-- the lowest number that applies is given, 0 where none does
 pub data FusedNumber (g : Input) (o : Lent) : ℕ → Type 0 where
   accepted : Accepted g o → FusedNumber g o 0
   sizes : served g.n g.r ≡ false → FusedNumber g o 1
@@ -160,12 +160,12 @@ accepted_of (limit _ _ _ _ _ _ _) e = absurd (omega arith)
 
 -- ---- what an accepted call leaves
 
--- "A full rack's ways: the product over letters of C(unseen, count)", an entry for each full rack; 0 where it cannot be drawn
+-- a full rack's ways, the product over the letters of C(unseen, count), an entry for each full rack; 0 where it cannot be drawn
 pub record Deals (n r : ℕ) (pool : List ℕ) (table : List Float) : Type 0 where
   pub racks : length table ≡ length (tallies n r)
   pub rack : (R : List ℕ) → Fits n r R → get_or table (rank_of n R - start n r) nan ≡ whole (pos (ways pool R))
 
--- maxsheet goes from a to b: the subset maximum and the scatter fill it whole, "otherwise it is the best split, written to maxsheet at drawable full racks only"
+-- maxsheet goes from a to b: the subset maximum and the scatter fill it whole, otherwise the best split is written at drawable full racks only
 pub record Bests (g : Input) (a b : List ℤ) : Type 0 where
   pub long : length b ≡ length a
   pub alone : sheet_alone g.mode ≡ true → SubsetMax g.n g.r g.sheet b
@@ -178,7 +178,7 @@ pub record Filled (g : Input) (o o' : Lent) : Type 0 where
   pub drawn : Deals g.n g.r g.pool o'.deals
   pub bests : Bests g o.maxsheet o'.maxsheet
 
--- the number, and the final contents of num, den, ways and maxsheet: "every refusal leaves all lent slices untouched"
+-- the number, and the final contents of num, den, ways and maxsheet: every refusal leaves all lent slices untouched
 pub record Fused (g : Input) (o : Lent) (answer : ℕ) (o' : Lent) : Type 0 where
   pub answered : FusedNumber g o answer
   pub untouched : (answer ≡ 0 → ⊥) → o' ≡ o

@@ -19,7 +19,7 @@ use Rattle.laws.specs.Loops.{ascend}
 use Rattle.laws.specs.Sums.{Additive, naturals, integers, sum_in, sum_over, sum_over_ℤ, sum_append, sum_cong, sum_cong_on, sum_concat_map, sum_le, sum_map, sum_member, sum_none, sum_upto_zero, sum_upto_suc, sum_weights, pos_sum}
 use Rattle.whole.specs.Whole.{whole, Small}
 use Rattle.whole.proofs.Steps.{zero_literal, above_zero, add_whole, mul_whole_above}
-use Rattle.lattice.specs.Binomial.{binomial}
+use Rattle.binomials.specs.Binomial.{binomial}
 use Rattle.lattice.specs.Tally.{total, tallies, lattice, start, rank_of, tally_at, add_tile, start_suc}
 use Rattle.lattice.specs.Tallies.{Fits, tally_at_fits, tallies_fit, tallies_all}
 use Rattle.lattice.specs.Lattice.{block_at, start_next, length_lattice_start}

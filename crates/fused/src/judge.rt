@@ -1,198 +1,127 @@
-// The judges of what a call is given, in the order of its refusals.
-ghost use Rattle.std.specs.Prelude.{◌≡◌, true, ◌⊎◌, ◌<◌, length};
-ghost use Rattle.lattice.specs.AddRows.{Decides};
-ghost use Rattle.lattice.specs.Answers.{served};
-ghost use Rattle.lattice.specs.Tally.{lattice, start};
-ghost use Rattle.fused.specs.Answer.{input, lent, in_force, ReadLengths, LentLengths, WordSheet, Words, Cleared, FusedNumber};
+//! The judges of what a call is given, in the order of its refusals.
+ghost use Rattle.std.specs.Prelude.{◌≡◌, ◌↔◌, true, ◌<◌, ◌≤ℤ◌, pos, length, All, IsTrue, IfOk};
+ghost use Rattle.refusal.specs.Refusal.{number_of};
+ghost use Rattle.lattice.specs.Tally.{lattice};
+ghost use Rattle.fused.specs.Answer.{lent, in_force, ReadLengths, LentLengths, WordSheet, Words, Cleared, FusedNumber};
+ghost use Rattle.fused.specs.Judged.{letters_in, input_of};
 
-use crate::mode::{Mode, in_force};
-use lattice::add::tables_are_right;
+use crate::board::Board;
+use lattice::rank_tables::{Ranks, have_lengths};
+use lattice::sizes::Sizes;
 use maxima::is_subset_max;
+use refusal::Refusal;
 use sums::weight::{all_clear, largest, within_weight};
 
-// Whether a table letter by letter is empty or whole.
-fn empty_or(len: usize, whole: usize) -> bool
-    ensures { Decides result ((len ≡ 0) ⊎ (len ≡ whole)) }
+/// The largest entry of sheet and leave.
+const LARGEST: u64 = 536_870_911;
+
+/// Whether leave_max, where it is read, has the lattice's length.
+#[tactic(auto, using(crate::proofs::Judges::whole))]
+fn leave_max_fits(sizes: Sizes, board: &Board) -> bool
+    ensures { IsTrue result ↔ (in_force board.now.mode ≡ true
+        → length board.now.leave_max.now ≡ length (lattice sizes.n sizes.r)) }
 {
-    if len == 0 {
-        return true;
-    }
-    if len == whole {
-        return true;
-    }
-    false
+    !board.mode.in_force() || board.leave_max.len() == sizes.len
 }
 
-// Whether the slices that are read have the lengths of a lattice with so many leaves and so many multisets.
-fn read_fit(
-    n: usize,
-    r: usize,
-    lo: usize,
-    size: usize,
-    add: &[u32],
-    by_letter: &[u32],
-    sheet: &[i32],
-    leave: &[i32],
-    leave_max: &[i32],
-    unseen: &[u8],
-    mode: Mode,
-) -> bool
-    requires { (served n r ≡ true) × (lo ≡ start n r) × (size ≡ length (lattice n r)) }
-    ensures { Decides result (ReadLengths (input n r add.now by_letter.now sheet.now leave.now leave_max.now unseen.now mode)) }
+/// Whether the slices that are read have the lattice's lengths.
+#[tactic(auto, using(crate::proofs::Judges::whole))]
+fn read_fit(sizes: Sizes, add: &[u32], by_letter: &[u32], board: &Board) -> bool
+    ensures { IsTrue result ↔ ReadLengths (input_of sizes add.now by_letter.now board.now) }
 {
-    let whole = lo * n;
-    if add.len() != whole {
-        return false;
-    }
-    if !empty_or(by_letter.len(), whole) {
-        return false;
-    }
-    if sheet.len() != size {
-        return false;
-    }
-    if leave.len() != size {
-        return false;
-    }
-    if unseen.len() != n {
-        return false;
-    }
-    if in_force(mode) {
-        if leave_max.len() != size {
-            return false;
-        }
-        return true;
-    }
-    true
+    board.sheet.len() == sizes.len
+        && board.leave.len() == sizes.len
+        && board.unseen.len() == sizes.n
+        && leave_max_fits(sizes, board)
+        && have_lengths(sizes, add.len(), by_letter.len())
 }
 
-// Whether the slices that are written have those lengths.
-fn lent_fit(
-    n: usize,
-    r: usize,
-    lo: usize,
-    size: usize,
-    num: &[f64],
-    den: &[f64],
-    ways: &[f64],
-    maxsheet: &[i32],
-) -> bool
-    requires { (lo ≡ start n r) × (size ≡ length (lattice n r)) }
-    ensures { Decides result (LentLengths n r (lent num.now den.now ways.now maxsheet.now)) }
+/// Whether the slices that are written have those lengths.
+#[tactic(auto, using(crate::proofs::Judges::whole, crate::proofs::Judges::racks_are, crate::proofs::Judges::leaves_fit))]
+fn lent_fit(sizes: Sizes, num: &[f64], den: &[f64], ways: &[f64], maxsheet: &[i32]) -> bool
+    ensures { IsTrue result ↔ LentLengths sizes.n sizes.r
+        (lent num.now den.now ways.now maxsheet.now) }
 {
-    if num.len() != lo {
-        return false;
-    }
-    if den.len() != lo {
-        return false;
-    }
-    if ways.len() != size - lo {
-        return false;
-    }
-    if maxsheet.len() != size {
-        return false;
-    }
-    true
+    num.len() == sizes.leaves
+        && den.len() == sizes.leaves
+        && ways.len() == sizes.len - sizes.leaves
+        && maxsheet.len() == sizes.len
 }
 
-// Whether no entry is negative, and that of no tiles is 0.
+/// Whether no entry is negative.
+fn none_negative(entries: &[i32]) -> bool
+    ensures { IsTrue result ↔ All (λ entry. pos 0 ≤ℤ entry) entries.now }
+{
+    entries.iter().all(|&entry| 0 <= entry)
+}
+
+/// Whether no entry is negative, and that of no tiles is 0.
+#[tactic(auto, using(crate::proofs::Judges::words_of, crate::proofs::Judges::of_words))]
 fn word_sheet(sheet: &[i32]) -> bool
     requires { 0 < length sheet.now }
-    ensures { Decides result (WordSheet sheet.now) }
+    ensures { IsTrue result ↔ WordSheet sheet.now }
 {
-    if 0 < sheet[0] {
-        return false;
-    }
-    for i in 0..sheet.len() {
-        if sheet[i] < 0 {
-            return false;
-        }
-    }
-    true
+    sheet[0] <= 0 && none_negative(sheet)
 }
 
-// Whether scatter, where it is in force, has a sheet and a leave_max that it can start from.
-fn scatters(n: usize, r: usize, sheet: &[i32], leave: &[i32], leave_max: &[i32], mode: Mode) -> bool
-    requires { (served n r ≡ true) × (length sheet.now ≡ length (lattice n r)) × (length leave.now ≡ length (lattice n r))
-        × (in_force mode ≡ true → length leave_max.now ≡ length (lattice n r)) }
-    ensures { Decides result (in_force mode ≡ true → Words n r sheet.now leave.now leave_max.now) }
+/// Whether scatter, where it is in force, has a sheet and a leave_max that it can start from.
+#[tactic(auto, using(crate::proofs::Judges::some_multiset))]
+fn scatters(sizes: Sizes, board: &Board) -> bool
+    requires in_sheet { length board.now.sheet.now ≡ length (lattice sizes.n sizes.r) }
+    requires in_leave { length board.now.leave.now ≡ length (lattice sizes.n sizes.r) }
+    requires in_leave_max { in_force board.now.mode ≡ true
+        → length board.now.leave_max.now ≡ length (lattice sizes.n sizes.r) }
+    ensures { IsTrue result ↔ (in_force board.now.mode ≡ true
+        → Words sizes.n sizes.r board.now.sheet.now board.now.leave.now board.now.leave_max.now) }
 {
-    if in_force(mode) {
-        if !word_sheet(sheet) {
-            return false;
-        }
-        if is_subset_max(n, r, leave, leave_max) {
-            return true;
-        }
-        return false;
-    }
-    true
+    !board.mode.in_force()
+        || word_sheet(board.sheet) && is_subset_max(sizes.n, sizes.r, board.leave, board.leave_max)
 }
 
-// Whether the sums and the ways are all +0.0.
+/// Whether the sums and the ways are all +0.0.
 fn cleared(num: &[f64], den: &[f64], ways: &[f64]) -> bool
-    ensures { Decides result (Cleared num.now den.now ways.now) }
+    ensures { IsTrue result ↔ Cleared num.now den.now ways.now }
 {
-    if !all_clear(num) {
-        return false;
-    }
-    if !all_clear(den) {
-        return false;
-    }
-    if !all_clear(ways) {
-        return false;
-    }
-    true
+    all_clear(num) && all_clear(den) && all_clear(ways)
 }
 
-// The number of the refusal of a call over a lattice with so many leaves and so many multisets; 0 where it is accepted.
-pub fn refusal(
-    n: usize,
-    r: usize,
-    lo: usize,
-    size: usize,
-    add: &[u32],
-    by_letter: &[u32],
-    sheet: &[i32],
-    leave: &[i32],
-    leave_max: &[i32],
-    unseen: &[u8],
-    mode: Mode,
+/// Judges what a call is given, in the order of the refusals, and gives the tables of ranks.
+pub fn judge<'a>(
+    sizes: Sizes,
+    add: &'a [u32],
+    by_letter: &'a [u32],
+    board: &Board,
     num: &[f64],
     den: &[f64],
     ways: &[f64],
     maxsheet: &[i32],
-) -> u8
-    requires { (served n r ≡ true) × (lo ≡ start n r) × (size ≡ length (lattice n r)) }
-    ensures { FusedNumber (input n r add.now by_letter.now sheet.now leave.now leave_max.now unseen.now mode)
-        (lent num.now den.now ways.now maxsheet.now) result }
+) -> Result<Ranks<'a>, Refusal>
+    ensures number { FusedNumber (input_of sizes add.now by_letter.now board.now)
+        (lent num.now den.now ways.now maxsheet.now) (number_of result) }
+    ensures sizes { IfOk result (λ ranks. ranks.sizes ≡ sizes) }
+    ensures by_index { IfOk result (λ ranks. ranks.add.now ≡ add.now) }
+    ensures letter_by_letter { IfOk result (λ ranks. letters_in ranks ≡ by_letter.now) }
 {
-    if !read_fit(
-        n, r, lo, size, add, by_letter, sheet, leave, leave_max, unseen, mode,
-    ) {
-        return 2;
+    if !read_fit(sizes, add, by_letter, board) {
+        return Err(Refusal::Length);
     }
-    if !lent_fit(n, r, lo, size, num, den, ways, maxsheet) {
-        return 2;
+    if !lent_fit(sizes, num, den, ways, maxsheet) {
+        return Err(Refusal::Length);
     }
-    let most_sheet = largest(sheet);
-    if 536870911 < most_sheet {
-        return 5;
+    let most_sheet = largest(board.sheet);
+    let most_leave = largest(board.leave);
+    if LARGEST < most_sheet || LARGEST < most_leave {
+        return Err(Refusal::Entry);
     }
-    let most_leave = largest(leave);
-    if 536870911 < most_leave {
-        return 5;
-    }
-    if !tables_are_right(n, r, lo, add, by_letter) {
-        return 6;
-    }
-    if !scatters(n, r, sheet, leave, leave_max, mode) {
-        return 7;
+    let ranks = Ranks::judge(sizes, add, by_letter)?;
+    if !scatters(sizes, board) {
+        return Err(Refusal::Scatter);
     }
     if !cleared(num, den, ways) {
-        return 8;
+        return Err(Refusal::NotClear);
     }
-    if !within_weight(unseen, r, most_sheet, most_leave) {
-        return 9;
+    if !within_weight(board.unseen, sizes.r, most_sheet, most_leave) {
+        return Err(Refusal::Weight);
     }
-    0
+    Ok(ranks)
 }

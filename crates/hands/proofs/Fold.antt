@@ -9,7 +9,7 @@ use Rattle.std.proofs.Math.Nat.{suc_inj}
 use Rattle.lattice.specs.Tally.{total, tallies}
 use Rattle.laws.specs.Sums.{Additive, naturals, integers, sum_in, sum_cong, sum_le, sum_bound}
 use Rattle.laws.specs.Every.{every, every_weaken}
-use Rattle.lattice.specs.Binomial.{binomial}
+use Rattle.binomials.specs.Binomial.{binomial}
 use Rattle.hands.specs.Hands.{cond_le, ways, holds, hand_count, hand_sum, ways_bound}
 use Rattle.hands.proofs.Hands.{ways_total, hand_count_cond, hand_sum_cond}
 use Rattle.hands.specs.Fold.{meets, partial_in, partial}

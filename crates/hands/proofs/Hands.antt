@@ -12,7 +12,7 @@ use Rattle.laws.specs.Lists.{upto, length_upto}
 use Rattle.laws.specs.Every.{every, every_weaken, every_both}
 use Rattle.laws.specs.Tests.{T-both, T-left, T-right}
 use Rattle.lattice.specs.Tally.{total, tallies}
-use Rattle.lattice.specs.Binomial.{binomial, positive, binomial_above}
+use Rattle.binomials.specs.Binomial.{binomial, positive, binomial_above}
 use Rattle.hands.specs.Choose.{choose, length_choose, choose_length, choose_every, sum_choose_append}
 use Rattle.hands.specs.Hands.{Tile, tiles_from, hands, rack_from, rack_of, ways, holds, holding, hand_count, hand_sum, tiles_letter, tiles_from_lem, rack_join, sum_tallies, hands_count, cond_le, ways_bound}
 

@@ -2,8 +2,8 @@
 use Rattle.std.proofs.Common.{◌≡◌, ℕ, zero, suc, ◌+◌, ◌-◌, ◌<◌, ◌≤◌, Bool, List, length, get_or, take, drop, replicate, sym, ◌∙◌, zero-add, arith, length-drop, length-take-le, get_or-drop, get_or-take, ext_get_or}
 use native.Mathlib.Nat.{sub-zero, add-sub_cancel_left}
 use lib.ListN.{length-replicate, get_or-replicate}
-use Rattle.lattice.specs.Binomial.{binomial_self}
-use Rattle.lattice.specs.AddRows.{choices, lowered, lowered_zero, lowered_suc, Row, Level, RowRight, RowAt, RowBefore, DownFrom, Decides}
+use Rattle.binomials.specs.Binomial.{binomial_self}
+use Rattle.lattice.specs.AddRows.{choices, lowered, lowered_zero, lowered_suc, Row, Level, RowRight, RowAt, DownFrom, Decides}
 
 -- the n entries from `at` on
 abbrev pub part : ℕ → ℕ → List ℕ → List ℕ
@@ -12,15 +12,8 @@ part at n table = take (at + n - at) (drop at table)
 pub part_length : (at n : ℕ) (table : List ℕ) → at + n ≤ length table → length (part at n table) ≡ n
 part_length at n table h = rw add-sub_cancel_left (length-take-le n (drop at table) (rw length-drop (omega arith)))
 
-part_at : (at n : ℕ) (table : List ℕ) (k : ℕ) → k < n → get_or (part at n table) k 0 ≡ get_or table (at + k) 0
+pub part_at : (at n : ℕ) (table : List ℕ) (k : ℕ) → k < n → get_or (part at n table) k 0 ≡ get_or table (at + k) 0
 part_at at n table k h = rw (add-sub_cancel_left, get_or-take n (drop at table) k 0 h, get_or-drop at table k 0)
-
--- the first letters of the row before
-pub part_before : (above : ℕ) (rem : List ℕ) (kept prior : ℕ) (table : List ℕ) → prior + kept ≤ length table → RowBefore above rem kept prior table
-    → RowBefore above rem (length (part prior kept table)) 0 (part prior kept table)
-part_before above rem kept prior table inside before =
-    let size = part_length prior kept table inside in
-    record { few = omega (arith, before.few); less = λ k h. let s : k < kept = omega arith in rw (zero-add, part_at prior kept table k s) (before.less k s) }
 
 -- the row, as a part and in the table
 pub decides_part : (above : ℕ) (rem : List ℕ) (at n : ℕ) (table : List ℕ) (b : Bool) → length rem ≡ n → Decides b (RowRight above rem (part at n table)) → Decides b (RowAt above rem at table)

@@ -1,5 +1,6 @@
 -- A row of a table of ranks from the row before it, judged or written: the letters whose tails stay are one more, and the others are walked down from there. Assumes nothing.
-use Rattle.std.proofs.Common.{◌≡◌, ℕ, zero, suc, ◌+◌, ◌-◌, ◌*◌, ◌<◌, ◌≤◌, Bool, true, false, List, length, get_or, take, drop, sym, ap, ◌∙◌, subst, add-zero, add-suc, zero-add, arith, length-drop, length-take-le, get_or-drop, take_all, get_or-take}
+use Rattle.std.proofs.Common.{◌≡◌, ℕ, zero, suc, ◌+◌, ◌-◌, ◌*◌, ◌<◌, ◌≤◌, Bool, true, false, List, length, get_or, take, drop, sym, ap, ◌∙◌, subst, add-zero, add-suc, zero-add, arith, length-drop, length-take-le, get_or-drop, get_or-take}
+use Rattle.std.proofs.lemmas.List.{drop-take, take_rest}
 use native.Mathlib.Decide.{dec_lt}
 use Rattle.lattice.specs.AddRows.{lowered, lowered_zero, lowered_suc, Row, Level, RowRight, RowAt, RowBefore, RowPut, Lifted, OneMoreEach, Decides, LastOf, Stepped, RowSame}
 use Rattle.lattice.specs.AddRow.{top}
@@ -71,63 +72,7 @@ row_joined above rem d row b first rest = record { yes = λ e k h. go e k h (dec
     no_way : b ≡ false → RowRight above rem row → ⊥
     no_way e right = rest.no e (λ k h. rw (get_or-drop d row k 0, lowered_drop above rem d (suc k), add-suc d k) (right (d + k) (omega (arith, length-drop d rem))))
 
--- as the code has them: a part of a slice
-rest_of : (d : ℕ) (list : List ℕ) → take (length list - d) (drop d list) ≡ drop d list
-rest_of d list = take_all (length list - d) (drop d list) (rw length-drop (omega arith))
-
-pub rest_length : (d : ℕ) (list : List ℕ) → length (take (length list - d) (drop d list)) ≡ length list - d
-rest_length d list = ap length (rest_of d list) ∙ length-drop d list
-
--- ---- both, judged by the row before
-
-module _ (above : ℕ) (rem before row : List ℕ) (known : Row above rem) (size : length row ≡ length rem) (prior : RowBefore above rem (length before) 0 before) where
-  abbrev kept : ℕ
-  kept = length before
-
-  less : (k : ℕ) → k < kept → get_or before k 0 + 1 ≡ lowered above rem (suc k)
-  less k h = rw zero-add at (prior.less k h)
-
-  pub front_length : length (take kept row) ≡ kept
-  front_length = length-take-le kept row (omega (arith, prior.few))
-
-  pub front_room : (k : ℕ) → k < kept → get_or before k 0 < 4294967295
-  front_room k h = omega (arith, less k h, known.fits k (omega (arith, prior.few)))
-
-  pub right_follows : RowRight above rem row → OneMoreEach before (take kept row)
-  right_follows right k h = get_or-take kept row k 0 h ∙ right k (omega (arith, prior.few)) ∙ sym (less k h)
-
-  -- what is known of the rest where the first letters are one more, and that it decides the row
-  module _ (some : 0 < kept) (more : OneMoreEach before (take kept row)) where
-    follows_right : (k : ℕ) → k < kept → get_or row k 0 ≡ lowered above rem (suc k)
-    follows_right k h = sym (get_or-take kept row k 0 h) ∙ more k h ∙ less k h
-
-    -- where the walk down stands after them
-    stands : get_or row (kept - 1) 0 ≡ lowered above rem kept
-    stands =
-        let e : suc (kept - 1) ≡ kept = omega arith in
-        follows_right (kept - 1) (omega arith) ∙ ap (lowered above rem) e
-
-    abbrev rest : List ℕ → List ℕ
-    rest list = take (length list - kept) (drop kept list)
-
-    pub rest_row : Row (get_or row (kept - 1) 0) (rest rem)
-    rest_row = rw (stands, rest_of kept rem) (row_drop above rem kept known)
-
-    pub rest_same : length (rest row) ≡ length (rest rem)
-    rest_same = omega (arith, rest_length kept row, rest_length kept rem)
-
-    pub rest_some : 0 < length (rest rem)
-    rest_some = omega (arith, rest_length kept rem, prior.few)
-
-    pub rest_level : Level kept rem → Level 0 (rest rem)
-    rest_level level = subst (Level 0) (sym (rest_of kept rem)) (level_drop rem kept level)
-
-    pub rest_decides : (b : Bool) → Decides b (RowRight (get_or row (kept - 1) 0) (rest rem) (rest row)) → Decides b (RowRight above rem row)
-    rest_decides b judged = row_joined above rem kept row b follows_right (rw (stands, rest_of kept rem, rest_of kept row) at judged)
-
--- ---- the same, written
-
--- the first letters, and then the others after them
+-- the same, written: the first letters, and then the others after them
 row_put : (above : ℕ) (rem : List ℕ) (at d : ℕ) (add add₁ add₂ : List ℕ) → length add₁ ≡ length add → ((p : ℕ) → p < at → get_or add₁ p 0 ≡ get_or add p 0)
     → ((k : ℕ) → k < d → get_or add₁ (at + k) 0 ≡ lowered above rem (suc k)) → RowPut (lowered above rem d) (drop d rem) (at + d) add₁ add₂ → RowPut above rem at add add₂
 row_put above rem at d add add₁ add₂ size before first put =
@@ -141,33 +86,56 @@ row_put above rem at d add add₁ add₂ size before first put =
         let z : d + (k - d) ≡ k = omega arith in
         rw z at (rw (y, lowered_drop above rem d (suc (k - d)), add-suc d (k - d)) at r)
 
-module _ (above : ℕ) (rem : List ℕ) (kept prior : ℕ) (add : List ℕ) (row : Row above rem) (before : RowBefore above rem kept prior add) where
-  pub lift_room : (k : ℕ) → k < kept → get_or add (prior + k) 0 < 4294967295
-  lift_room k h = let few = before.few in omega (arith, before.less k h, row.fits k (omega arith))
+-- ---- as the code has them: of the first n tails those from letter d on
 
-  module _ (at : ℕ) (add₁ : List ℕ) (some : 0 < kept) (lift : Lifted kept prior at add add₁) where
-    first : (k : ℕ) → k < kept → get_or add₁ (at + k) 0 ≡ lowered above rem (suc k)
-    first k h = lift.row k h ∙ before.less k h
+module _ (above n d : ℕ) (tails : List ℕ) (few : d ≤ n) where
+  abbrev pub rest : List ℕ
+  rest = take (n - d) (drop d tails)
 
-    stands_at : get_or add₁ (at + kept - 1) 0 ≡ lowered above rem kept
-    stands_at =
-        let e : at + (kept - 1) ≡ at + kept - 1 = omega arith in
-        let d : suc (kept - 1) ≡ kept = omega arith in
-        ap (λ (p : ℕ). get_or add₁ p 0) (sym e) ∙ first (kept - 1) (omega arith) ∙ ap (lowered above rem) d
+  pub rest_is : rest ≡ drop d (take n tails)
+  rest_is = let e : d + (n - d) ≡ n = omega arith in sym (rw e at (drop-take d (n - d) tails))
 
-    pub put_rest : Row (get_or add₁ (at + kept - 1) 0) (take (length rem - kept) (drop kept rem))
-    put_rest = subst (λ (l : List ℕ). Row (get_or add₁ (at + kept - 1) 0) l) (sym (rest_of kept rem)) (subst (λ (x : ℕ). Row x (drop kept rem)) (sym stands_at) (row_drop above rem kept row))
+  pub rest_row : {cur : ℕ} → cur ≡ lowered above (take n tails) d → Row above (take n tails) → Row cur rest
+  rest_row e row = rw (e, rest_is) (row_drop above (take n tails) d row)
 
-    pub put_whole : (add₂ : List ℕ) → RowPut (get_or add₁ (at + kept - 1) 0) (take (length rem - kept) (drop kept rem)) (at + kept) add₁ add₂ → RowPut above rem at add add₂
-    put_whole add₂ put =
-        row_put above rem at kept add add₁ add₂ lift.size lift.before first
-        (subst (λ (l : List ℕ). RowPut (lowered above rem kept) l (at + kept) add₁ add₂) (rest_of kept rem)
-        (subst (λ (x : ℕ). RowPut x (take (length rem - kept) (drop kept rem)) (at + kept) add₁ add₂) stands_at put))
+  pub rest_level : Level d (take n tails) → Level 0 rest
+  rest_level level = subst (Level 0) (sym rest_is) (level_drop (take n tails) d level)
+
+  -- the row is right where its rest is, if its first letters are one more than those of a right row before
+  pub rest_decides : (row : List ℕ) {cur : ℕ} {b : Bool} → cur ≡ lowered above (take n tails) d → ((k : ℕ) → k < d → get_or row k 0 ≡ lowered above (take n tails) (suc k))
+      → Decides b (RowRight cur rest (take (length row - d) (drop d row))) → Decides b (RowRight above (take n tails) row)
+  rest_decides row {cur} {b} e first judged = row_joined above (take n tails) d row b first (rw (e, rest_is, take_rest row d) at judged)
+
+  -- the first letters are written, and then the others after them
+  pub rest_put : {cur prior at : ℕ} {add add₁ add₂ : List ℕ} → cur ≡ lowered above (take n tails) d → RowBefore above (take n tails) d prior add → Lifted d prior at add add₁
+      → RowPut cur rest (at + d) add₁ add₂ → RowPut above (take n tails) at add add₂
+  rest_put {cur} {prior} {at} {add} {add₁} {add₂} e before lift put =
+      row_put above (take n tails) at d add add₁ add₂ lift.size lift.before (λ k h. lift.row k h ∙ before.less k h) (rw (e, rest_is) at put)
+
+-- the entries of the row before have room for one more
+pub before_room : {above : ℕ} {rem : List ℕ} {kept prior : ℕ} {table : List ℕ} → Row above rem → RowBefore above rem kept prior table → (k : ℕ) → k < kept → get_or table (prior + k) 0 < 4294967295
+before_room row before k h = omega (arith, before.less k h, before.few, row.fits k (omega (arith, before.few)))
+
+-- the first letters are judged by the row before
+module _ {above : ℕ} {rem before : List ℕ} (d : ℕ) (row : List ℕ) (e : length before ≡ d) (prior : RowBefore above rem d 0 before) where
+  pub first_right : OneMoreEach before (take d row) → (k : ℕ) → k < d → get_or row k 0 ≡ lowered above rem (suc k)
+  first_right more k h = sym (get_or-take d row k 0 h) ∙ more k (omega arith) ∙ rw zero-add at (prior.less k h)
+
+  pub first_follows : RowRight above rem row → OneMoreEach before (take d row)
+  first_follows right k h =
+      let s : k < d = omega arith in
+      get_or-take d row k 0 s ∙ right k (omega (arith, prior.few)) ∙ sym (rw zero-add at (prior.less k s))
 
 -- the row as it is written, compared with a table letter by letter
-pub decides_same : (above : ℕ) (rem : List ℕ) (n rows i : ℕ) (row row' table : List ℕ) (b : Bool) → length rem ≡ n → RowPut above rem 0 row row' → Decides b (RowSame n rows i 0 row' table)
-    → Decides b ((k : ℕ) → k < length rem → get_or table (k * rows + i) 0 ≡ lowered above rem (suc k))
-decides_same above rem n rows i row row' table b e put judged = record {
-  yes = λ x k h. judged.yes x k (omega arith) ∙ put.row k h;
-  no = λ x right. judged.no x (λ k h. let s : k < length rem = omega arith in right k s ∙ sym (put.row k s));
+pub decides_same : (above : ℕ) (rem : List ℕ) (n rows i : ℕ) (row row' table : List ℕ) (b : Bool) → length rem ≡ n → n ≤ length row' → RowPut above rem 0 row row'
+    → Decides b (RowSame (length (take n row')) rows i 0 (take n row') table) → Decides b ((k : ℕ) → k < length rem → get_or table (k * rows + i) 0 ≡ lowered above rem (suc k))
+decides_same above rem n rows i row row' table b e le put judged = record {
+  yes = λ x k h. judged.yes x k (omega (arith, size)) ∙ same k (omega arith) ∙ put.row k h;
+  no = λ x right. judged.no x (λ k h. let s : k < n = omega (arith, size) in right k (omega arith) ∙ sym (put.row k (omega arith)) ∙ sym (same k s));
 }
+  where
+    size : length (take n row') ≡ n
+    size = length-take-le n row' le
+
+    same : (k : ℕ) → k < n → get_or (take n row') (0 + k) 0 ≡ get_or row' (0 + k) 0
+    same k h = get_or-take n row' (0 + k) 0 (omega arith)

@@ -1,12 +1,14 @@
 -- The census of a board that is asked rightly: the number of its refusal, and the sums that the table of its bests gives.
-use Rattle.std.proofs.Common.{◌≡◌, ℕ, ◌+◌, ◌*◌, ◌^◌, ◌<◌, ◌≤◌, max, Bool, true, false, cond, leb, List, ◌∷◌, length, get_or, ℤ, pos, ◌*ℤ◌, nat_abs, sym, refl, ap, ◌∙◌, subst, le_trans, add_comm, mul-le-mul_left, arith, eq-eqb, le-leb, leb-true}
+use Rattle.std.proofs.Common.{zero, suc, take, replicate, le_of_suc-le-suc, length-take-le, get_or-take, ◌≡◌, ℕ, ◌+◌, ◌*◌, ◌^◌, ◌<◌, ◌≤◌, max, Bool, true, false, cond, leb, List, ◌∷◌, length, get_or, ℤ, pos, ◌*ℤ◌, nat_abs, sym, refl, ap, ◌∙◌, subst, le_trans, add_comm, mul-le-mul_left, arith, eq-eqb, le-leb, leb-true}
 use native.Mathlib.Nat.{le-suc}
-use lib.Ieee.{Float, nan}
+use lib.Ieee.{Float, nan, binary64, of_bits}
+use lib.ListN.{length-replicate}
+use Rattle.whole.proofs.Steps.{zero_literal}
 use borrow.Author.Tests.{lt-leb}
 use Rattle.laws.specs.Every.{Every, every_nil, every_cons, every_member, every_map}
 use Rattle.laws.specs.Sums.{integers, select, sum_cong_on}
 use Rattle.whole.specs.Whole.{whole}
-use Rattle.lattice.specs.Binomial.{binomial, positive}
+use Rattle.binomials.specs.Binomial.{binomial, positive}
 use Rattle.lattice.specs.Tally.{total, tallies, lattice, start, start_suc}
 use Rattle.lattice.specs.Tallies.{Fits, tallies_fit, start_mono}
 use Rattle.lattice.specs.Lattice.{length_lattice_start}
@@ -18,10 +20,12 @@ use Rattle.hands.proofs.Hands.{hand_sum_cond}
 use Rattle.search.specs.Split.{best_split}
 use Rattle.search.specs.Refusals.{table_number}
 use Rattle.search.specs.Answers.{Tabled}
-use Rattle.sums.specs.Weight.{largest}
+use Rattle.sums.specs.Weight.{largest, Clear}
 use Rattle.sums.specs.Largest.{both_small, split_largest}
 use Rattle.table_sums.specs.Table.{best_at, most_best, Limit, Verdict, sizes, lengths, entries, limits, accepted, Apportioned}
 use Rattle.listing.specs.Sizes.{cells_of, Cells, cells_served}
+use Rattle.listing.specs.declared.board.Board.{Board as Lent}
+use Rattle.listing.specs.Board.{board_lent}
 use Rattle.listing.specs.Listing.{Board, leave_at, count_at, sum_at, weight, board_number, Asked, Summed}
 use Rattle.listing.proofs.Bounds.{summed}
 
@@ -46,6 +50,22 @@ module _ (n r : ℕ) (some : 0 < cells_of n r) where
   start_given = rw (cells_served n r some).sizes
 
 -- ---- the number of a board
+
+-- a board that is lent asks rightly, where the tables have its length and the sums are +0.0
+pub asked : (b : Lent) {best : ℕ} {num den : List Float} → best ≡ cells_of b.n b.r → length num ≡ cells_of b.n b.r → length den ≡ cells_of b.n b.r
+    → Clear num → Clear den → Asked (board_lent b) best num den
+asked b bests nums dens num_clear den_clear =
+    record {
+      served = b.served;
+      counts = b.counts;
+      sheets = b.sheets;
+      leaves = b.leaves;
+      bests = bests;
+      nums = nums;
+      dens = dens;
+      num_clear = num_clear;
+      den_clear = den_clear;
+    }
 
 pub told_table : {n r k : ℕ} {sheet leave entry exit : List ℤ} → Tabled n r sheet leave entry k exit → Tabled n r sheet leave entry (table_number n r sheet leave (length entry)) exit
 told_table {n} {r} {sheet = sheet} {leave = leave} {entry = entry} {exit = exit} t = subst (λ (j : ℕ). Tabled n r sheet leave entry j exit) t.answered t
@@ -178,3 +198,22 @@ module _ {b : Board} {best best' : List ℤ} {num den num' den' : List Float} {j
       summed b (start b.n b.r) num' den' (sym clear)
       (λ i l. ap (λ (j : ℕ). get_or num' j nan) (sym (rank_at b.n b.r i (below i l))) ∙ (h.filled census_0).sum (leave_at b i) (at_fits b.n b.r i (below i l)) ∙ ap whole (sum_same (leave_at b i)))
       (λ i l. ap (λ (j : ℕ). get_or den' j nan) (sym (rank_at b.n b.r i (below i l))) ∙ (h.filled census_0).count (leave_at b i) (at_fits b.n b.r i (below i l)))
+
+-- ---- tables of +0.0
+
+-- the start of a table that is clear
+clear_take : (k : ℕ) (xs : List Float) → k ≤ length xs → Clear xs → Clear (take k xs)
+clear_take k xs h c i l =
+    let m : i < k = omega (arith, length-take-le k xs h) in
+    get_or-take k xs i nan m ∙ c i (omega arith)
+
+clear_zeros : (k : ℕ) → Clear (replicate k (of_bits binary64 0))
+clear_zeros k i l = at k i (omega (arith, length-replicate k (of_bits binary64 0)))
+  where
+    at : (k i : ℕ) → i < k → get_or (replicate k (of_bits binary64 0)) i nan ≡ whole (pos 0)
+    at (suc k) zero h = zero_literal
+    at (suc k) (suc i) h = at k i (le_of_suc-le-suc h)
+    at zero _ h = elim h [ ]
+
+pub clear_start : (j k : ℕ) → j ≤ k → Clear (take j (replicate k (of_bits binary64 0)))
+clear_start j k h = clear_take j (replicate k (of_bits binary64 0)) (omega (arith, length-replicate k (of_bits binary64 0), h)) (clear_zeros k)

@@ -1,49 +1,78 @@
-// The census of a board that was read.
-ghost use Rattle.std.specs.Prelude.{◌≡◌, ◌<◌, length};
-ghost use Rattle.lattice.specs.Tally.{start};
-ghost use Rattle.listing.specs.Sizes.{cells_of};
-ghost use Rattle.listing.specs.Listing.{Asked, Census, board_given};
+//! A board, and its census.
 
-use lattice::{Lattice, Ranked};
+ghost use Rattle.std.specs.Prelude.{◌≡◌, ◌<◌, ◌≤◌, length, IfOk, IfErr, OnOk};
+ghost use Rattle.listing.specs.Sizes.{cells_of};
+
+use lattice::Lattice;
+use refusal::Refusal;
 use search::calls::best_equity_table;
 use sums::weight::{largest, within_weight};
 use table_sums::apportion_table;
 
-// Fills num and den with the sums and counts of the board's leaves; or gives the number of the board's refusal. The best of each full
-// rack goes into `best`.
-pub fn census(
-    n: usize,
-    r: usize,
-    pool: &[u8],
-    sheet: &[i32],
-    leave: &[i32],
-    best: &mut [i32],
-    num: &mut [f64],
-    den: &mut [f64],
-) -> u8
-    requires { Asked (board_given n r pool.now sheet.now leave.now) (length best.old) num.old den.old }
-    ensures { Census (board_given n r pool.now sheet.now leave.now)
-        best.old num.old den.old result best.new num.new den.new }
-{
-    let refusal = best_equity_table(Lattice { n, r }, sheet, leave, best);
-    if refusal != 0 {
-        return refusal;
+/// A lattice of n letters and racks of r tiles that the listing serves, a pool count for each
+/// letter, and an entry of sheet and of leave for each multiset.
+#[derive(Clone, Copy, Debug)]
+pub struct Board<'a> {
+    pub n: usize,
+    pub r: usize,
+    pub pool: &'a [u8],
+    pub sheet: &'a [i32],
+    pub leave: &'a [i32],
+    pub ghost served: { 0 < cells_of n r },
+    pub ghost few: { cells_of n r ≤ 512 },
+    pub ghost counts: { length pool.now ≡ n },
+    pub ghost sheets: { length sheet.now ≡ cells_of n r },
+    pub ghost leaves: { length leave.now ≡ cells_of n r },
+}
+
+impl Board<'_> {
+    ghost use Rattle.lattice.specs.Tally.{start};
+    ghost use Rattle.sums.specs.Weight.{Clear};
+    ghost use Rattle.listing.specs.Listing.{Census};
+    ghost use Rattle.listing.specs.Board.{board_lent};
+
+    // The three tables stay slices: they are lent, since the listing takes no heap.
+    /// Fills num and den, which are +0.0, with the sums and counts of the leaves; and best with the
+    /// best of each full rack.
+    pub fn census(self, best: &mut [i32], num: &mut [f64], den: &mut [f64]) -> Result<(), Refusal>
+        requires bests { length best.old ≡ cells_of self.n self.r }
+        requires nums { length num.old ≡ cells_of self.n self.r }
+        requires dens { length den.old ≡ cells_of self.n self.r }
+        requires num_clear { Clear num.old }
+        requires den_clear { Clear den.old }
+        ensures { Census (board_lent self.entry) best.old num.old den.old result best.new num.new den.new }
+    {
+        let lattice = Lattice {
+            n: self.n,
+            r: self.r,
+        };
+        best_equity_table(lattice, self.sheet, self.leave, best)?;
+        if !within_weight(self.pool, self.r, largest(self.sheet), largest(self.leave)) {
+            return Err(Refusal::Weight);
+        }
+        apportion_table(lattice, best, self.pool, num, den)
     }
-    if within_weight(pool, r, largest(sheet), largest(leave)) {
-        apportion_table(Lattice { n, r }, best, pool, num, den)
-    } else {
-        9
+
+    /// How many leaves there are.
+    pub fn leaves(self) -> u32
+        ensures { result ≡ start self.entry.n self.entry.r }
+    {
+        let lattice = Lattice {
+            n: self.n,
+            r: self.r,
+        };
+        lattice.full_rack_start().unwrap()
     }
 }
 
-// How many leaves a board has, where its sizes are served.
-pub fn leaves_of(n: usize, r: usize) -> u32
-    requires { 0 < cells_of n r }
-    ensures { result ≡ start n r }
+/// The length of a lattice that the listing serves, which is at most 512.
+pub fn cells(n: usize, r: usize) -> Result<usize, Refusal>
+    ensures ok { IfOk result (λ cells. (cells ≡ cells_of n r) × (0 < cells) × (cells ≤ 512)) }
+    ensures letters { OnOk result (n ≤ 64) }
+    ensures err { IfErr result (λ refusal. (refusal ≡ Refusal.Sizes) × (cells_of n r ≡ 0)) }
 {
-    let lat = Lattice { n, r };
-    match lat.full_rack_start() {
-        Ranked::At(leaves) => leaves,
-        Ranked::Refused(_) => 0,
+    match (Lattice { n, r }).len() {
+        Ok(len) if len <= 512 => Ok(len as usize),
+        _ => Err(Refusal::Sizes),
     }
 }

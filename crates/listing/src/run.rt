@@ -1,134 +1,92 @@
-// From a text to its listing.
-ghost use Rattle.std.specs.Prelude.{◌≡◌, ℕ, ◌<◌, ◌≤◌, List, length, OnOk};
-ghost use Rattle.sums.specs.Weight.{Clear};
-ghost use Rattle.text.specs.Text.{Written};
-ghost use Rattle.listing.specs.Take.{held};
-ghost use Rattle.listing.specs.Listing.{Asked, Listed, Replied, Told, board_given, board_printed, page_room, Printed};
+//! From a text to its listing.
 
-use crate::Form;
-use crate::board::{census, leaves_of};
+ghost use Rattle.std.specs.Prelude.{◌≡◌, ℕ, ◌<◌, ◌≤◌, List, length, OnErr, OnOk};
+ghost use Rattle.std.specs.Io.KnownBytes.{Appends};
+ghost use Rattle.listing.specs.Reading.{reading};
+ghost use Rattle.listing.specs.Taken.{reading_as};
+ghost use Rattle.listing.specs.Listing.{AppendsPart, Listed, OnWhole, Printed, PrintedPart, Replied, listing_of, page_room};
+
+use crate::form::Given;
 use crate::input::read_all;
-use crate::page::{put_page, put_refusal};
+use crate::page::{PAGE_ROOM, page_of};
+use refusal::Refusal;
 use std::io;
-use std::io::{Read, Write};
+use std::io::{ErrorKind, Read, Write};
 
-// 64 pool counts.
-fn counts() -> [u8; 64]
-    ensures { 64 ≡ length result }
-{
-    [0; 64]
-}
-
-// 1,024 entries.
-fn entries() -> [i32; 1024]
-    ensures { 1024 ≡ length result }
-{
-    [0; 1024]
-}
-
-// 512 bests.
-fn bests() -> [i32; 512]
-    ensures { 512 ≡ length result }
-{
-    [0; 512]
-}
-
-// 512 sums, each +0.0.
-fn sums() -> [f64; 512]
-    ensures { (512 ≡ length result) × Clear result }
-{
-    [0.0; 512]
-}
-
-// Puts what is printed for a board: the number of its refusal, or its page.
-fn put_board(
-    n: usize,
-    r: usize,
-    pool: &[u8],
-    sheet: &[i32],
-    leave: &[i32],
-    best: &mut [i32],
-    num: &mut [f64],
-    den: &mut [f64],
-    out: &mut [u8],
-) -> usize
-    requires { Asked (board_given n r pool.now sheet.now leave.now) (length best.old) num.old den.old × (page_room ≤ length out.old) }
-    ensures { (result ≤ page_room) × Written out.old 0
-        (board_printed (board_given n r pool.now sheet.now leave.now)) out.new result }
-{
-    let answer = census(n, r, pool, sheet, leave, best, num, den);
-    if answer != 0 {
-        return put_refusal(out, answer);
-    }
-    let leaves = leaves_of(n, r);
-    put_page(out, n as u32, r as u32, leaves, num, den)
-}
-
-// Puts what is printed for what was read: the number of its refusal, or what is printed for its board.
-pub fn respond(f: Form, pool: &[u8], entries: &[i32], out: &mut [u8]) -> usize
-    requires { ((text : List ℕ) × Told text (held f pool.now entries.now)) × (page_room ≤ length out.old) }
-    ensures { (text : List ℕ) → Told text (held f pool.now entries.now)
-        → Listed text out.old out.new result }
-{
-    let refusal = f.refusal;
-    if refusal != 0 {
-        return put_refusal(out, refusal);
-    }
-    let mut best = bests();
-    let mut num = sums();
-    let mut den = sums();
-    let n = f.n;
-    let r = f.r;
-    let wanted = f.wanted;
-    let half = wanted / 2;
-    put_board(
-        n,
-        r,
-        &pool[..n],
-        &entries[..half],
-        &entries[half..wanted],
-        &mut best[..half],
-        &mut num[..half],
-        &mut den[..half],
-        out,
-    )
-}
-
-// Puts the listing of a text into a buffer, and answers where it ends. A buffer with less room than the longest page takes is left as it
-// was, and the answer is 0.
+/// Puts the listing of a text into a buffer, and gives where it ends. A buffer with less room than
+/// the longest page takes is left as it was, and the answer is 0.
 pub fn list(text: &[u8], out: &mut [u8]) -> usize
-    ensures { (page_room ≤ length out.old → Listed text.now out.old out.new result)
-        × (length out.old < page_room → (out.new ≡ out.old) × (result ≡ 0)) }
+    ensures listed { page_room ≤ length out.old → Listed text.now out.old out.new result }
+    ensures small { length out.old < page_room → (out.new ≡ out.old) × (result ≡ 0) }
 {
-    if out.len() < 45122 {
+    if out.len() < PAGE_ROOM {
         return 0;
     }
-    let mut pool = counts();
-    let mut values = entries();
-    let s = crate::feed(crate::begin(), text, &mut pool, &mut values);
-    let f = crate::finish(s, &mut pool, &mut values);
-    respond(f, &pool, &values, out)
+    respond(&Given::parse(text), out)
 }
 
-// Reads a text to its end, and puts its listing: where that ends, and how the last read ended.
+/// Reads a text to its end, and puts its listing into a buffer: where that ends, and how the last
+/// read ended.
 pub fn reply<R: Read>(reader: &mut R, out: &mut [u8]) -> (usize, io::Result<()>)
     requires { page_room ≤ length out.old }
-    ensures { Replied (R.remaining reader.old) (R.remaining reader.new) result.1 out.old out.new result.0 }
+    ensures replied { Replied (R.remaining reader.old) (R.remaining reader.new) result.1
+        out.old out.new result.0 }
+    ensures whole { OnOk result.1 (OnWhole (R.remaining reader.old) (λ all.
+        Listed all out.old out.new result.0)) }
 {
-    let mut buf = [0; 4096];
-    let mut pool = counts();
-    let mut values = entries();
-    let (f, read) = read_all(reader, &mut buf, &mut pool, &mut values);
-    (respond(f, &pool, &values, out), read)
+    let (given, read) = read_all(reader);
+    (respond(&given, out), read)
 }
 
-// Reads a text to its end, and writes its listing. Where a read fails, the listing of what was read before is written, and then the error is given.
+/// Reads a text to its end, and writes its listing. Where a read fails, the listing of what was
+/// read before is written, and then the error is given. Where a write fails, the start of the
+/// listing is written.
 pub fn print<R: Read, W: Write>(reader: &mut R, writer: &mut W) -> io::Result<()>
-    ensures { OnOk result (Printed (R.remaining reader.old) (R.remaining reader.new) result
+    ensures ok { OnOk result (Printed (R.remaining reader.old) (R.remaining reader.new) result
+        (W.contents writer.old) (W.contents writer.new)) }
+    ensures whole { OnOk result (OnWhole (R.remaining reader.old) (λ all.
+        Appends (W.contents writer.old) (W.contents writer.new) (listing_of all))) }
+    ensures err { OnErr result (PrintedPart (R.remaining reader.old) (R.remaining reader.new) result
         (W.contents writer.old) (W.contents writer.new)) }
 {
-    let mut out = [0; 65536];
-    let (end, read) = reply(reader, &mut out);
-    writer.write_all(&out[..end])?;
+    let (given, read) = read_all(reader);
+    let page = page_of(&given);
+    write_page(writer, page.as_slice())?;
     read
+}
+
+/// Puts what is printed for what a text gives into a buffer, and gives where it ends.
+pub fn respond(given: &Result<Given, Refusal>, out: &mut [u8]) -> usize
+    requires { page_room ≤ length out.old }
+    ensures { (text : List ℕ) → reading text ≡ reading_as given.now → Listed text out.old out.new result }
+{
+    let page = page_of(given);
+    let end = page.len();
+    out[..end].copy_from_slice(page.as_slice());
+    end
+}
+
+/// Writes a page, as `write_all` does, and says more: where a write fails, its start is written. A
+/// proved loop has to end, so the writes are counted up to a number that no run reaches.
+fn write_page<W: Write>(writer: &mut W, page: &[u8]) -> io::Result<()>
+    ensures ok { OnOk result (Appends (W.contents writer.old) (W.contents writer.new) page.now) }
+    ensures err { OnErr result (AppendsPart (W.contents writer.old) (W.contents writer.new) page.now) }
+{
+    let mut rest = page;
+    for _ in 0..u64::MAX {
+        if rest.is_empty() {
+            break;
+        }
+        match writer.write(rest) {
+            Ok(0) => return Err(ErrorKind::WriteZero.into()),
+            Ok(count) => rest = &rest[count..],
+            Err(error) if error.kind() == ErrorKind::Interrupted => {}
+            Err(error) => return Err(error),
+        }
+    }
+    if rest.is_empty() {
+        Ok(())
+    } else {
+        Err(ErrorKind::TimedOut.into())
+    }
 }

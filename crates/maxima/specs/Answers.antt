@@ -1,9 +1,8 @@
--- What the outward call answers, for every input, and what it leaves in the slice. A refusal carries the number of document 01's table. Assumes nothing.
+-- What the outward call answers, for every input, and what it leaves in the slice. Assumes nothing.
 use Rattle.std.proofs.Math.Path.{◌≡◌, refl}
 use Rattle.std.proofs.Common.{sym, ◌∙◌, subst, arith, ext_get_or}
-use Rattle.std.specs.Prelude.{Bool, cond, List, [], ◌⊎◌, ℕ, ◌*◌, ◌<◌, ℤ, pos, get_or, ◌≤ℤ◌}
+use Rattle.std.specs.Prelude.{Bool, List, [], ◌⊎◌, ◌≢◌, ℕ, ◌*◌, ◌<◌, ℤ, pos, get_or, ◌≤ℤ◌}
 use Rattle.std.proofs.Math.Bool.{true, false}
-use Rattle.std.proofs.Math.Nat.{le-suc}
 use Rattle.std.proofs.Math.ListN.{length}
 use Rattle.laws.specs.Every.{every_at}
 use Rattle.laws.specs.Greatest.{GreatestOver}
@@ -12,12 +11,7 @@ use Rattle.lattice.specs.AddRows.{Decides}
 use Rattle.lattice.specs.Answers.{served}
 use Rattle.lattice.specs.Tally.{lattice, start}
 use Rattle.lattice.specs.Rank.{rank_at, at_fits}
-use Rattle.lattice.specs.Lattice.{length_lattice}
-use Rattle.lattice.specs.Tallies.{start_mono}
-use Rattle.lattice.specs.Numbers.{Len, FullRackStart, len_number, none, or_none}
-use Rattle.lattice.specs.Served.{facts, starts_small}
 use Rattle.lattice.specs.TableCalls.{Tables}
-use Rattle.lattice.specs.declared.Ranked.TheVariants.{At, Refused}
 use Rattle.maxima.specs.Maxima.{SubsetMax}
 
 -- the lengths that the call takes: a row of n ranks for each leave, as many letter by letter or none, and an entry for each multiset in src and in dst
@@ -36,55 +30,20 @@ pub data SubsetMaxNumber (n r : ℕ) (add letters : List ℕ) (src dst : ℕ) : 
 
 pub record SubsetMaxed (n r : ℕ) (add letters : List ℕ) (src entry : List ℤ) (answer : ℕ) (exit : List ℤ) : Type 0 where
   pub answered : SubsetMaxNumber n r add letters (length src) (length entry) answer
-  pub untouched : (answer ≡ 0 → ⊥) → exit ≡ entry
+  pub untouched : (answer ≢ 0) → exit ≡ entry
   pub size : length exit ≡ length entry
   pub filled : answer ≡ 0 → SubsetMax n r src exit
-
--- ---- the length that a lattice gives
-
-module _ (n r : ℕ) where
-  pub len_at : {k : ℕ} → Len n r (At k) → (served n r ≡ true) × (k ≡ length (lattice n r))
-  unfolding len_number
-  len_at {k} l = go (served n r) refl l.gives.numbered l.gives.valued
-    where
-      go : (b : Bool) → served n r ≡ b → ◌≡◌ {A = ℕ} 0 (cond b 0 1) → k ≡ or_none (cond b 0 1) (length (lattice n r)) → (served n r ≡ true) × (k ≡ length (lattice n r))
-      go true e z v = (e, v)
-      go false e z v = absurd (omega arith)
-
-  pub len_refused : {k : ℕ} → Len n r (Refused k) → served n r ≡ false
-  unfolding len_number
-  len_refused {k} l = go (served n r) refl l.gives.valued
-    where
-      go : (b : Bool) → served n r ≡ b → none ≡ or_none (cond b 0 1) (length (lattice n r)) → served n r ≡ false
-      go true e v = absurd (let f = (facts n r e).few in omega (arith, length_lattice n r))
-      go false e v = e
-
-  -- and the start of its full racks
-  pub leaves_at : {k : ℕ} → FullRackStart n r (At k) → k ≡ start n r
-  unfolding len_number
-  leaves_at {k} l = go (served n r) l.gives.numbered l.gives.valued
-    where
-      go : (b : Bool) → ◌≡◌ {A = ℕ} 0 (cond b 0 1) → k ≡ or_none (cond b 0 1) (start n r) → k ≡ start n r
-      go true z v = v
-      go false z v = absurd (omega arith)
-
-  pub leaves_refused : {k : ℕ} → FullRackStart n r (Refused k) → served n r ≡ false
-  unfolding len_number
-  leaves_refused {k} l = go (served n r) refl l.gives.valued
-    where
-      go : (b : Bool) → served n r ≡ b → none ≡ or_none (cond b 0 1) (start n r) → served n r ≡ false
-      go true e v = absurd (omega (arith, starts_small n r (facts n r e), start_mono n (le-suc r)))
-      go false e v = e
 
 -- ---- the call's own cases
 
 module _ {n r : ℕ} {add letters : List ℕ} {src entry : List ℤ} where
-  pub refused : {k : ℕ} → SubsetMaxNumber n r add letters (length src) (length entry) k → (k ≡ 0 → ⊥) → SubsetMaxed n r add letters src entry k entry
+  pub refused : {answer : ℕ} → SubsetMaxNumber n r add letters (length src) (length entry) answer → (answer ≢ 0)
+      → SubsetMaxed n r add letters src entry answer entry
   refused a f = record { answered = a; untouched = λ g. refl; size = refl; filled = λ z. absurd (f z) }
 
-  pub done : served n r ≡ true → Lengths n r (length add) (length letters) (length src) (length entry) → Tables n r add letters → {exit : List ℤ}
-      → SubsetMax n r src exit × (length exit ≡ length entry) → SubsetMaxed n r add letters src entry 0 exit
-  done e l t h = record { answered = accepted e l t; untouched = λ g. absurd (g refl); size = h.1; filled = λ z. h.0 }
+  pub accepts : SubsetMaxNumber n r add letters (length src) (length entry) 0 → {exit : List ℤ} → SubsetMax n r src exit → length exit ≡ length entry
+      → SubsetMaxed n r add letters src entry 0 exit
+  accepts a h k = record { answered = a; untouched = λ g. absurd (g refl); size = k; filled = λ z. h }
 
 -- ---- the definition leaves no choice
 

@@ -1,4 +1,4 @@
--- Worked examples: the subset maximum of document 01's leave, and that the order of a pass matters. Assumes nothing.
+-- Worked examples: the subset maximum of a leave over two letters, and that the order of a pass matters. Assumes nothing.
 use Rattle.std.specs.Prelude.{◌≡◌, refl, List, [], ◌∷◌, ℕ, ℤ, pos, negsuc}
 use Rattle.laws.specs.Integer.{max_ℤ}
 use Rattle.laws.specs.Loops.{descend}

@@ -1,4 +1,4 @@
--- The tally that comes next in rank order, as document 01 orders ranks: by the number of tiles, and then letter 0 first. Assumes nothing.
+-- The tally that comes next in rank order, as ranks are ordered (docs/SCOPE.md, "Ranks"): by the number of tiles, and then letter 0 first. Assumes nothing.
 use Rattle.std.specs.Prelude.{◌≡◌, refl, List, [], ◌∷◌, ℕ, zero, suc, ◌+◌, ◌≤◌, ◌<◌, length, get_or, drop}
 use Rattle.std.proofs.Common.{sym, ap, ◌∙◌, suc-le-suc, zero-le, arith}
 use Rattle.std.proofs.Math.Nat.{suc_inj}

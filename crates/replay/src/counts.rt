@@ -1,76 +1,90 @@
-// How many records of each call agreed, differed or are not served.
 ghost use Rattle.std.specs.Prelude.{◌≤◌};
 
-use cases::part::{after, at, first};
-use std::io;
-use trials::outcome::Outcome;
+use cases::Call;
+use std::{fmt, io};
+use trials::Outcome;
 
-// Where a call is counted: the calls of the format are below 63.
-fn slot(op: u64) -> usize
+/// How many records agreed, differed or are not served.
+#[derive(Clone, Copy, Debug, Default, PartialEq, Eq, Hash)]
+pub struct Tally {
+    agreed: u64,
+    differed: u64,
+    not_served: u64,
+}
+
+impl Tally {
+    fn add(&mut self, outcome: Outcome) {
+        let count = match outcome {
+            Outcome::Agreed => &mut self.agreed,
+            Outcome::Differed => &mut self.differed,
+            Outcome::NotServed => &mut self.not_served,
+            Outcome::Set => return,
+        };
+        *count = count.saturating_add(1);
+    }
+
+    fn plus(self, other: Tally) -> Tally {
+        Tally {
+            agreed: self.agreed.saturating_add(other.agreed),
+            differed: self.differed.saturating_add(other.differed),
+            not_served: self.not_served.saturating_add(other.not_served),
+        }
+    }
+}
+
+impl fmt::Display for Tally {
+    fn fmt<W: fmt::Write>(&self, f: &mut fmt::Formatter<W>) -> fmt::Result {
+        let Tally {
+            agreed,
+            differed,
+            not_served,
+        } = self;
+        write!(
+            f,
+            "{agreed} agreed, {differed} differed, {not_served} not served"
+        )
+    }
+}
+
+/// The tallies of all calls, by their numbers: those of the format are below 63, and the last is
+/// of what is none of them.
+#[derive(Clone, Copy, Debug)]
+pub struct Counts([Tally; 64]);
+
+/// Where a call is counted, by its number; what is no call has none.
+fn slot(number: Option<u64>) -> usize
     ensures { result ≤ 63 }
 {
-    if op < 63 { op as usize } else { 63 }
-}
-
-fn sum(x: u64, y: u64) -> u64 {
-    if x <= u64::MAX - y { x + y } else { u64::MAX }
-}
-
-fn bump(counts: &mut [u64], at: usize) {
-    if at < counts.len() {
-        counts[at] = sum(counts[at], 1);
+    match number {
+        Some(number) if number < 63 => number as usize,
+        _ => 63,
     }
 }
 
-// Counts a record of a call: those that agreed stand first, 64 entries on those that differed, then those that are not served.
-pub fn count(counts: &mut [u64], op: u64, outcome: Outcome) {
-    let at = slot(op);
-    match outcome {
-        Outcome::Agreed => bump(counts, at),
-        Outcome::Differed => bump(counts, 64 + at),
-        Outcome::NotServed => bump(counts, 128 + at),
-        Outcome::Set => {}
+impl Counts {
+    pub fn new() -> Self {
+        Counts([Tally::default(); 64])
     }
-}
 
-fn total(list: &[u64]) -> u64 {
-    let mut all: u64 = 0;
-    for n in list {
-        all = sum(all, *n);
+    /// Counts a record of a call.
+    pub fn add(&mut self, number: Option<u64>, outcome: Outcome) {
+        self.0[slot(number)].add(outcome);
     }
-    all
-}
 
-// Prints how many agreed, differed and are not served.
-fn put_counts(rt: &impl Print, agreed: u64, differed: u64, not_served: u64) -> io::Result<()> {
-    println!(rt; "{agreed} agreed, {differed} differed, {not_served} not served")
-}
-
-// Prints the line of a call.
-pub fn put_call(rt: &impl Print, name: &str, op: usize, counts: &[u64]) -> io::Result<()> {
-    print!(rt; "{name}: ")?;
-    put_counts(
-        rt,
-        at(counts, op),
-        at(after(counts, 64), op),
-        at(after(counts, 128), op),
-    )
-}
-
-// Prints the line of records that set something, where any is wrong.
-pub fn put_set(rt: &impl Print, name: &str, op: usize, counts: &[u64]) -> io::Result<()> {
-    if at(after(counts, 64), op) != 0 {
-        put_call(rt, name, op, counts)?;
+    /// Prints a line for each call, and all calls last. Records that give a list have a line only
+    /// where one is wrong.
+    pub fn report(&self, rt: &impl Print) -> io::Result<()> {
+        for call in Call::ALL {
+            let tally = self.0[slot(Some(call as u64))];
+            if !call.is_list() || tally.differed != 0 {
+                println!(rt; "{call}: {tally}")?;
+            }
+        }
+        println!(rt;
+            "{}",
+            self.0
+                .iter()
+                .fold(Tally::default(), |all, tally| all.plus(*tally))
+        )
     }
-    Ok(())
-}
-
-// Prints the last line: all calls.
-pub fn put_all(rt: &impl Print, counts: &[u64]) -> io::Result<()> {
-    put_counts(
-        rt,
-        total(first(counts, 64)),
-        total(first(after(counts, 64), 64)),
-        total(first(after(counts, 128), 64)),
-    )
 }

@@ -1,114 +1,44 @@
-// Reads a list of comparison cases from standard input, runs each case that is served, and prints for each call how many
-// answers agree with the list, entry by entry, and how many differ.
+//! Reads a list of comparison cases from standard input, runs each case that is served, and prints
+//! for each call how many answers agree with the list, entry by entry, and how many differ.
 #![tactic(auto)]
 
-use cases::input::{Source, Stage};
-use counts::{count, put_all, put_call, put_set};
-use run::run;
+use cases::{Reading, is_blank};
+use counts::Counts;
+use failure::Failure;
+use std::alloc::Global;
 use std::io;
-use trials::outcome::Outcome;
+use std::io::{BufRead, BufReader};
+use trials::{Case, Outcome};
 
 mod counts;
-mod run;
+mod failure;
 
-// Says what is wrong with the text, and counts it.
-fn blame(rt: &impl Print, text: &str, counts: &mut [u64]) -> io::Result<()> {
-    rt.println(text)?;
-    count(counts, 0, Outcome::Differed);
+/// Runs the records of a list, and counts what came of each.
+fn run(alloc: Global, reader: impl BufRead + Drop, counts: &mut Counts) -> Result<(), Failure> {
+    let mut reading = Reading::Between;
+    let mut case = Case::new(alloc);
+    for line in reader.split(alloc, b'\n') {
+        let line = line?;
+        for word in line.split(|byte| is_blank(byte)) {
+            if let Some(record) = reading.take(alloc, word)? {
+                counts.add(record.first().copied(), case.run(&record)?);
+            }
+        }
+    }
+    reading.finish()?;
     Ok(())
 }
 
-fn blame_cut(rt: &impl Print, counts: &mut [u64]) -> io::Result<()> {
-    blame(rt, "the text is cut: no record 0 ends it", counts)
-}
-
-fn blame_broken(rt: &impl Print, counts: &mut [u64]) -> io::Result<()> {
-    blame(rt, "the text is no list beyond its last record", counts)
-}
-
-// Where the text is cut or is no list, that is said and counted.
-fn judge(rt: &impl Print, source: Source, counts: &mut [u64]) -> io::Result<()> {
-    let record = source.record;
-    let stage = record.stage;
-    match stage {
-        Stage::Open => blame_cut(rt, counts),
-        Stage::Whole => blame_cut(rt, counts),
-        Stage::Ended => Ok(()),
-        Stage::Broken => blame_broken(rt, counts),
-    }
-}
-
-fn report_ranks(rt: &impl Print, counts: &[u64]) -> io::Result<()> {
-    put_call(rt, "size_start", 10, counts)?;
-    put_call(rt, "rank", 11, counts)?;
-    put_call(rt, "rank_sparse", 12, counts)?;
-    put_call(rt, "rank_bytes", 13, counts)?;
-    put_call(rt, "unrank_into", 14, counts)
-}
-
-fn report_tables(rt: &impl Print, counts: &[u64]) -> io::Result<()> {
-    put_call(rt, "pascal_rows", 15, counts)?;
-    put_call(rt, "fill_add", 16, counts)?;
-    put_call(rt, "fill_by_letter", 17, counts)?;
-    put_call(rt, "letter", 18, counts)
-}
-
-fn report_plays(rt: &impl Print, counts: &[u64]) -> io::Result<()> {
-    put_call(rt, "naive_best_equity", 20, counts)?;
-    put_call(rt, "best_equity_of", 21, counts)?;
-    put_call(rt, "best_equity_table", 22, counts)?;
-    put_call(rt, "best_keep_of", 23, counts)?;
-    put_call(rt, "subset_max_transform", 24, counts)
-}
-
-fn report_sums(rt: &impl Print, counts: &[u64]) -> io::Result<()> {
-    put_call(rt, "apportion_table", 30, counts)?;
-    put_call(rt, "apportion_fused", 31, counts)?;
-    put_call(rt, "dynamic_leave_value", 32, counts)?;
-    put_call(rt, "record_blank_variants", 40, counts)
-}
-
-// Records that set something are named only where one is wrong.
-fn report_board(rt: &impl Print, counts: &[u64]) -> io::Result<()> {
-    put_call(rt, "len, full_rack_start", 1, counts)?;
-    put_set(rt, "pool", 2, counts)?;
-    put_set(rt, "sheet", 3, counts)?;
-    put_set(rt, "leave", 4, counts)?;
-    put_set(rt, "best", 5, counts)
-}
-
-// Prints a line for each call, and all calls last.
-fn report(rt: &impl Print, counts: &[u64]) -> io::Result<()> {
-    report_board(rt, counts)?;
-    report_ranks(rt, counts)?;
-    report_tables(rt, counts)?;
-    report_plays(rt, counts)?;
-    report_sums(rt, counts)?;
-    put_all(rt, counts)
-}
-
 fn main(rt: HostRuntime) -> io::Result<()> {
-    let mut buf = [0u8; 65536];
-    let mut numbers = [0u64; 16384];
-    let mut counts = [0u64; 192];
-    let mut pool = [0u8; 512];
-    let mut sheet = [0i32; 4096];
-    let mut leave = [0i32; 4096];
-    let mut best = [0i32; 4096];
-    let mut add = [0u32; 16384];
-    let mut by_letter = [0u32; 16384];
-    let source = run(
-        &mut rt.stdin(),
-        &mut buf,
-        &mut numbers,
-        &mut counts,
-        &mut pool,
-        &mut sheet,
-        &mut leave,
-        &mut best,
-        &mut add,
-        &mut by_letter,
-    )?;
-    judge(&rt, source, &mut counts)?;
-    report(&rt, &counts)
+    let alloc = rt.alloc();
+    let mut counts = Counts::new();
+    match run(alloc, BufReader::new(alloc, rt.stdin())?, &mut counts) {
+        Ok(()) => {}
+        Err(Failure::Io(error)) => return Err(error),
+        Err(Failure::List(error)) => {
+            println!(rt; "{error}")?;
+            counts.add(None, Outcome::Differed);
+        }
+    }
+    counts.report(&rt)
 }

@@ -158,6 +158,23 @@ pub record RunAt (t : List ℕ) (i stop rest : ℕ) : Type 0 where
   pub absent : Absent t stop i
   pub before : rest ≡ present (take (stop - 1) t)
 
+-- the same with its count, and with the letters before it: `left` of those of `rest`
+pub record SplitsAt (t : List ℕ) (i stop count : ℕ) (rest : List ℕ) (left : ℕ) : Type 0 where
+  pub some : stop ≡ 0 → ⊥
+  pub inside : stop ≤ i
+  pub absent : Absent t stop i
+  pub counted : count ≡ get_or t (stop - 1) 0
+  pub here : 0 < count
+  pub same : rest ≡ t
+  pub before : left ≡ stop - 1
+
+pub run_splits : {t : List ℕ} {i stop count rest : ℕ} → RunAt t i stop rest → count ≡ get_or t (stop - 1) 0 → SplitsAt t i stop count t (stop - 1)
+run_splits {t} {i} {stop} {count} h e = record { some = h.some; inside = h.inside; absent = h.absent; counted = e; here = pos_of count (λ z. h.here (sym e ∙ z)); same = refl; before = refl }
+  where
+    pos_of : (k : ℕ) → (k ≡ 0 → ⊥) → 0 < k
+    pos_of zero f = absurd (f refl)
+    pos_of (suc k) f = omega arith
+
 pub lowest_run : {t : List ℕ} {i w z : ℕ} → Lowest t i w z → RunAt t i (i - z) (w / 2 ^ z / 2)
 lowest_run {t} {i} {w} {z} h =
     record {

@@ -1,4 +1,4 @@
--- The scatter and leave's subset maximum as whole tables, by rank, so that a small board computes: document 01 decides every entry. Assumes nothing.
+-- The scatter and leave's subset maximum as whole tables, by rank, so that a small board computes. Assumes nothing.
 use Rattle.std.specs.Prelude.{◌≡◌, ℕ, ◌<◌, Bool, true, false, cond, List, [], map, length, ℤ, pos, ◌≤ℤ◌, ◌==◌, slice_index_or, refl}
 use Rattle.std.proofs.Common.{sym, ap, ◌∙◌, subst, arith, eqb-true, ext_get_or}
 use Rattle.std.proofs.lemmas.Bool.{eqb-false}

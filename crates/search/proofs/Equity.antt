@@ -1,19 +1,22 @@
 -- From what a search of a rack finds to its answer. Assumes nothing.
 use mathlib.Core.Path.{◌≡◌, refl, sym, ap, ap₂, ◌∙◌, subst}
 use mathlib.Core.List.{List}
-use Prim.Native.Nat.{ℕ, zero, suc, ◌+◌, ◌≤◌}
+use Prim.Native.Nat.{ℕ, ◌+◌, ◌≤◌}
 use native.Mathlib.Omega.{arith}
-use lib.IntN.{ℤ, pos}
+use lib.IntN.{ℤ}
 use lib.ListN.{length}
-use lib.Signed.{◌≤ℤ◌, ◌<ℤ◌}
-use Rattle.lattice.specs.Binomial.{binomial}
+use mathlib.Core.Bool.{Bool, true, false}
+use Rattle.binomials.specs.Binomial.{binomial}
 use Rattle.lattice.specs.Tally.{total}
 use Rattle.search.specs.Counts.{at_most}
-use Rattle.search.specs.Split.{best_split, found, Held}
-use Rattle.search.specs.Best.{found_in, found_out}
-use Rattle.search.specs.Refusals.{or_else, sizes_number, rack_number, Sized, sized, entries_0, entries_5, within_length}
-use Rattle.search.specs.Answers.{given, best_number, best_value, Answered}
-use Rattle.search.specs.declared.calls.Best.TheVariants.{Is, Refused}
+use Rattle.search.specs.Split.{best_split, parts_small, Held}
+use Rattle.search.specs.Refusals.{or_else, or_first, sizes_number, entries_number, rack_number, Sized, sized, entries_0, entries_5, within_length}
+use Rattle.search.specs.Answers.{given, given_refused, code_some, best_value, Answered}
+use Rattle.refusal.specs.Refusal.{code_of}
+use Rattle.refusal.specs.declared.Refusal.{Refusal}
+use Rattle.refusal.specs.declared.Refusal.TheVariants.{Entry}
+use Rattle.std.specs.Prelude.{Result, Ok, Err}
+use Rattle.whole.specs.Mean.{unplayable}
 
 -- what the search asks
 pub sized_held : {n r : ℕ} (sheet leave : List ℤ) (t : List ℕ) → Sized n r (length sheet) (length leave) t → Held sheet leave t
@@ -26,32 +29,39 @@ sized_held {n} {r} sheet leave t s =
       in_leave = omega (arith, room, s.in_leave);
     }
 
-answered : (k : ℕ) (v : ℤ) → Answered k v (given k (Is v) (Refused k))
-unfolding given best_number best_value
-answered zero v = record { is = refl; numbered = refl; valued = refl }
-answered (suc k) v = record { is = refl; numbered = refl; valued = refl }
+not_true : (b : Bool) → (b ≡ true → ⊥) → b ≡ false
+not_true true f = absurd (f refl)
+not_true false f = refl
+
+module _ {refusal : ℕ} {best : ℤ} where
+  accepted : refusal ≡ 0 → {v : ℤ} → v ≡ best → Answered refusal best (Ok v)
+  unfolding given best_value
+  accepted z e = record { is = λ _. ap Ok e; numbered = sym z; valued = rw z e }
+
+  refused : {b : Result ℤ Refusal} (e : Refusal) → b ≡ Err e → code_of e ≡ refusal → Answered refusal best b
+  unfolding best_value
+  refused e is k =
+      let some = λ (z : refusal ≡ 0). code_some e (k ∙ z) in
+      rw is (record { is = λ z. absurd (some z); numbered = k; valued = sym (given_refused refusal best unplayable some) })
 
 module _ (n r : ℕ) (sheet leave : List ℤ) (t : List ℕ) where
   -- what the sizes refuse
-  pub rack_refused : (v : ℤ) (k : ℕ) → k ≡ sizes_number n r (length sheet) (length leave) t → (k ≡ 0 → ⊥) → Answered (rack_number n r sheet leave t) v (Refused k)
-  unfolding rack_number or_else given
-  rack_refused v zero e f = absurd (f refl)
-  rack_refused v (suc k) e f = rw (← e) (answered (suc k) v)
+  pub rack_refused : (best : ℤ) {b : Result ℤ Refusal} (e : Refusal) → b ≡ Err e → code_of e ≡ sizes_number n r (length sheet) (length leave) t → Answered (rack_number n r sheet leave t) best b
+  unfolding rack_number
+  rack_refused best e is k = refused e is (k ∙ sym (or_first (entries_number sheet leave n t) (λ z. code_some e (k ∙ z))))
 
   -- what the search finds, where they refuse nothing
-  module _ (none : sizes_number n r (length sheet) (length leave) t ≡ 0) {v : ℤ} (is : v ≡ found sheet leave (length t) t) where
-    found_here : v ≡ found sheet leave n t
-    found_here = is ∙ ap (λ (k : ℕ). found sheet leave k t) (sized n r (length sheet) (length leave) t none).letters
+  module _ (none : sizes_number n r (length sheet) (length leave) t ≡ 0) where
+    here : {v : ℤ} → v ≡ best_split sheet leave (length t) t → v ≡ best_split sheet leave n t
+    here e = e ∙ ap (λ (k : ℕ). best_split sheet leave k t) (sized n r (length sheet) (length leave) t none).letters
 
-    pub rack_found : v <ℤ pos 2147483647 → Answered (rack_number n r sheet leave t) (best_split sheet leave n t) (Is v)
-    unfolding rack_number or_else given
-    rack_found h =
-        let f = found_in sheet leave n t found_here h in
-        let e : rack_number n r sheet leave t ≡ 0 = ap₂ or_else none (entries_0 sheet leave n t f.0) in
-        rw (e, ← f.1) (answered 0 v)
+    parts_here : {b : Bool} → parts_small sheet leave (length t) t ≡ b → parts_small sheet leave n t ≡ b
+    parts_here e = ap (λ (k : ℕ). parts_small sheet leave k t) (sym (sized n r (length sheet) (length leave) t none).letters) ∙ e
 
-    pub rack_beyond : pos 2147483647 ≤ℤ v → Answered (rack_number n r sheet leave t) (best_split sheet leave n t) (Refused 5)
-    unfolding rack_number or_else given
-    rack_beyond h =
-        let e : rack_number n r sheet leave t ≡ 5 = ap₂ or_else none (entries_5 sheet leave n t (found_out sheet leave n t found_here h)) in
-        rw e (answered 5 (best_split sheet leave n t))
+    pub rack_found : {v : ℤ} → parts_small sheet leave (length t) t ≡ true → v ≡ best_split sheet leave (length t) t → Answered (rack_number n r sheet leave t) (best_split sheet leave n t) (Ok v)
+    unfolding rack_number or_else
+    rack_found all is = accepted (ap₂ or_else none (entries_0 sheet leave n t (parts_here all))) (here is)
+
+    pub rack_beyond : (parts_small sheet leave (length t) t ≡ true → ⊥) → Answered (rack_number n r sheet leave t) (best_split sheet leave n t) (Err Entry)
+    unfolding rack_number or_else
+    rack_beyond beyond = refused Entry refl (sym (ap₂ or_else none (entries_5 sheet leave n t (parts_here (not_true _ beyond)))))

@@ -1,21 +1,26 @@
 -- From the best leave that is found to its answer. Assumes nothing.
 use mathlib.Core.Path.{◌≡◌, refl, sym, ap, ◌∙◌, subst}
 use mathlib.Core.List.{List}
-use Prim.Native.Nat.{ℕ, zero, suc, ◌+◌, ◌-◌, ◌≤◌, ◌<◌}
+use Prim.Native.Nat.{ℕ, ◌+◌, ◌-◌, ◌≤◌, ◌<◌}
 use native.Mathlib.Omega.{arith}
 use lib.IntN.{ℤ}
 use lib.ListN.{length}
 use lib.Seq.{take-length}
-use Rattle.lattice.specs.Binomial.{binomial}
+use Rattle.binomials.specs.Binomial.{binomial}
 use Rattle.lattice.specs.Tally.{total}
 use Rattle.lattice.specs.Tallies.{count}
 use Rattle.search.specs.Counts.{at_most}
-use Rattle.search.specs.Order.{kept}
 use Rattle.search.specs.Keep.{KeepReady}
 use Rattle.search.specs.Refusals.{Sized, within_length}
-use Rattle.search.specs.Answers.{given, keep_number, keep_value, KeepAnswered}
+use Rattle.search.specs.BestKeep.{no_leave, best_keep}
+use Rattle.search.specs.Answers.{given, given_refused, code_some, leave_given, keep_value, KeepAnswered}
+use Rattle.refusal.specs.Refusal.{code_of}
+use Rattle.refusal.specs.declared.Refusal.{Refusal}
+use Rattle.std.specs.Prelude.{Option, Result, Ok, Err}
+use Rattle.search.specs.Results.{PartOf, rank_given, keep_attained}
+use Rattle.lattice.specs.Numbers.{none}
+use Rattle.std.proofs.Common.{⊎_elim, ne_eqb}
 use Rattle.search.specs.declared.Kept.{Kept}
-use Rattle.search.specs.declared.calls.Keep.TheVariants.{Is, Refused}
 
 -- what the walk asks at the start
 pub sized_keep : {n r : ℕ} (leave : List ℤ) (t : List ℕ) {tiles k : ℕ} → Sized n r (length leave) (length leave) t → tiles ≡ total t → k ≤ tiles → KeepReady leave t (length t) tiles 0 0 k
@@ -34,16 +39,22 @@ sized_keep {n} {r} leave t {tiles} {k} s e h =
       ranks = omega (arith, s.in_leave, s.sizes.few);
     }
 
-answered : (k : ℕ) (x : Kept) → KeepAnswered k x (given k (Is x.value x.rank) (Refused k))
-unfolding given keep_number keep_value
-answered zero x = record { is = refl; numbered = refl; valued = refl }
-answered (suc k) x = record { is = refl; numbered = refl; valued = refl }
+module _ {refusal : ℕ} where
+  pub keep_refused : (best : Kept) {b : Result (Option Kept) Refusal} (e : Refusal) → b ≡ Err e → code_of e ≡ refusal → KeepAnswered refusal best b
+  unfolding keep_value
+  keep_refused best e is k =
+      let some = λ (z : refusal ≡ 0). code_some e (k ∙ z) in
+      rw is (record { is = λ z. absurd (some z); numbered = k; valued = sym (given_refused refusal best no_leave some) })
 
-pub keep_refused : (x : Kept) (k : ℕ) {j : ℕ} → k ≡ j → (k ≡ 0 → ⊥) → KeepAnswered j x (Refused k)
-unfolding given
-keep_refused x zero e f = absurd (f refl)
-keep_refused x (suc k) e f = rw (← e) (answered (suc k) x)
+  pub keep_is : {best : Kept} → refusal ≡ 0 → {b : Option Kept} → keep_value (Ok b) ≡ best → b ≡ leave_given best → KeepAnswered refusal best (Ok b)
+  unfolding given
+  keep_is z v e = record { is = λ _. ap Ok e; numbered = sym z; valued = rw z v }
 
-pub keep_is : (x : Kept) {j : ℕ} {v : ℤ} {r : ℕ} → j ≡ 0 → kept v r ≡ x → KeepAnswered j x (Is v r)
-unfolding given
-keep_is x {v = v} {r} e f = rw (e, ← f) (answered 0 (kept v r))
+-- the value of the leave that is given is the best
+module _ {r : ℕ} (leave : List ℤ) (n : ℕ) (t : List ℕ) (k : ℕ) (s : Sized n r (length leave) (length leave) t) where
+  pub keep_given : keep_value (Ok (leave_given (best_keep leave n t k))) ≡ best_keep leave n t k
+  unfolding leave_given keep_value
+  keep_given = ⊎_elim (λ e. rw e refl) (λ h. rw (ne_eqb (best_keep leave n t k).rank none (ranked h)) refl) (keep_attained leave n t k)
+    where
+      ranked : PartOf leave n t k (best_keep leave n t k) → (best_keep leave n t k).rank ≡ none → ⊥
+      ranked h z = omega (arith, z, h.rank, rank_given leave n t k s h.part h.inside)

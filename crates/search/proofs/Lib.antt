@@ -3,3 +3,5 @@ pub mod FullRacks
 pub mod Keeping
 pub mod Moves
 pub mod Results
+mod Sizes
+mod KeepAll

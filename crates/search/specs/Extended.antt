@@ -8,7 +8,7 @@ use Rattle.std.proofs.Math.Decide.{dec_le}
 use Rattle.std.proofs.Math.Seq.{split_at}
 use Rattle.laws.specs.Greatest.{Below, Greatest, same_by}
 use Rattle.laws.specs.Integer.{at_ℤ, parts-≡, +ℤ-parts}
-use Rattle.lattice.specs.Binomial.{binomial, symmetric, binomial_one, binomial_self}
+use Rattle.binomials.specs.Binomial.{binomial, symmetric, binomial_one, binomial_self}
 use Rattle.lattice.specs.Tally.{total, start, within, rank_of, add_tile, Within, minus, total_cons, within_nil, rank_is}
 use Rattle.lattice.specs.Parts.{Within-refl, part_length, rest_within}
 use Rattle.lattice.specs.Rank.{length_add_tile, total_add_tile}

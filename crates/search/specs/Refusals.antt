@@ -1,5 +1,4 @@
--- The number of each call for every input, by document 01's table "What a refused call gives": the lowest that applies, and 0 where the
--- call is accepted. Assumes nothing.
+-- The number of each call for every input (docs/SCOPE.md, "Refusals"): the lowest that applies, and 0 where the call is accepted. Assumes nothing.
 use Rattle.std.proofs.Math.Path.{◌≡◌, refl}
 use Rattle.std.proofs.Common.{ap, ◌∙◌, add_comm, le_refl, arith}
 use Rattle.std.specs.Prelude.{Bool, cond, ◌&&◌, List, ℕ, zero, suc, ◌+◌, ◌≤◌, ℤ, length}
@@ -7,11 +6,9 @@ use Rattle.std.proofs.Math.Bool.{true, false}
 use borrow.Author.Tests.{eqb-true, leb-true, eq-eqb, ne_eqb}
 use Rattle.std.proofs.Math.Dec.{leb, eqb}
 use Rattle.laws.specs.Tests.{and_left, and_right}
-use Rattle.lattice.specs.Binomial.{binomial}
+use Rattle.binomials.specs.Binomial.{binomial}
 use Rattle.lattice.specs.Tally.{total}
-use Rattle.lattice.specs.Answers.{served, len_answer}
-use Rattle.lattice.specs.declared.Ranked.{Ranked}
-use Rattle.lattice.specs.declared.Ranked.TheVariants.{At, Refused as Refuse}
+use Rattle.lattice.specs.Answers.{served}
 use Rattle.lattice.specs.Served.{Served, facts}
 use Rattle.search.specs.Counts.{at_most, at_most_mono}
 use Rattle.search.specs.Split.{small, all_of, parts_small}
@@ -21,15 +18,20 @@ unfoldable pub or_else : ℕ → ℕ → ℕ
 or_else zero k = k
 or_else (suc j) k = suc j
 
--- 2: "sheet and leave have the lattice's length", and the tally n counts
+pub or_first : {j : ℕ} (k : ℕ) → (j ≡ 0 → ⊥) → or_else j k ≡ j
+unfolding or_else
+or_first {j = zero} k f = absurd (f refl)
+or_first {j = suc i} k f = refl
+
+-- 2: sheet and leave have the lattice's length, and the tally n counts
 abbrev pub lengths : ℕ → ℕ → ℕ → ℕ → List ℕ → Bool
 lengths n r sheet leave t = eqb sheet (binomial (n + r) n) && eqb leave (binomial (n + r) n) && eqb (length t) n
 
--- 1, 2 and 4 ("sum of a tally over r"), for a rack and two tables of so many entries
+-- 1, 2 and 4 (the sum of a tally is over r), for a rack and two tables of so many entries
 unfoldable pub sizes_number : ℕ → ℕ → ℕ → ℕ → List ℕ → ℕ
 sizes_number n r sheet leave t = cond (served n r) (cond (lengths n r sheet leave t) (cond (leb (total t) r) 0 4) 2) 1
 
--- 5: "a sheet or leave entry that the answer depends on": an entry at a part of the rack
+-- 5: an entry of sheet or leave that the answer depends on, which is an entry at a part of the rack
 unfoldable pub entries_number : List ℤ → List ℤ → ℕ → List ℕ → ℕ
 entries_number sheet leave n t = cond (parts_small sheet leave n t) 0 5
 
@@ -49,7 +51,7 @@ unfoldable pub table_number : ℕ → ℕ → List ℤ → List ℤ → ℕ → 
 table_number n r sheet leave out =
     cond (served n r) (cond (eqb (length sheet) (binomial (n + r) n) && eqb (length leave) (binomial (n + r) n) && eqb out (binomial (n + r) n)) (cond (all_of small sheet && all_of small leave) 0 5) 2) 1
 
--- best_keep_of, which "takes any i32 leave"
+-- best_keep_of, which takes any leave
 abbrev pub leave_number : ℕ → ℕ → List ℤ → List ℕ → ℕ
 leave_number n r leave t = sizes_number n r (length leave) (length leave) t
 
@@ -103,24 +105,17 @@ module _ (n r sheet leave : ℕ) (t : List ℕ) where
 
   -- the same with a slice for the kept tally
   module _ (kept : ℕ) where
-    pub sizes_1 : sizes_number n r sheet leave t ≡ 1 → naive_sizes n r sheet leave t kept ≡ 1
-    unfolding sizes_number naive_sizes
-    sizes_1 = go (served n r) (lengths n r sheet leave t) (eqb kept n) (leb (total t) r)
-      where
-        go : (a l k b : Bool) → ◌≡◌ {A = ℕ} (cond a (cond l (cond b 0 4) 2) 1) 1 → ◌≡◌ {A = ℕ} (cond a (cond (l && k) (cond b 0 4) 2) 1) 1
-        go false l k b e = refl
-        go true false k b e = absurd (omega (arith, e))
-        go true true k false e = absurd (omega (arith, e))
-        go true true k true e = absurd (omega (arith, e))
+    pub play_1 : served n r ≡ false → naive_sizes n r sheet leave t kept ≡ 1
+    unfolding naive_sizes
+    play_1 e = rw e
 
-    pub sizes_2 : (sizes_number n r sheet leave t ≡ 1 → ⊥) → (kept ≡ n → ⊥) → naive_sizes n r sheet leave t kept ≡ 2
-    unfolding sizes_number naive_sizes
-    sizes_2 f g = rw (ne_eqb kept n g) (go (served n r) (lengths n r sheet leave t) (leb (total t) r) f)
+    pub play_2 : served n r ≡ true → (kept ≡ n → ⊥) → naive_sizes n r sheet leave t kept ≡ 2
+    unfolding naive_sizes
+    play_2 e f = rw (e, ne_eqb kept n f) (go (lengths n r sheet leave t) (leb (total t) r))
       where
-        go : (a l b : Bool) → (◌≡◌ {A = ℕ} (cond a (cond l (cond b 0 4) 2) 1) 1 → ⊥) → ◌≡◌ {A = ℕ} (cond a (cond (l && false) (cond b 0 4) 2) 1) 2
-        go false l b f = absurd (f refl)
-        go true false b f = refl
-        go true true b f = refl
+        go : (l b : Bool) → ◌≡◌ {A = ℕ} (cond (l && false) (cond b 0 4) 2) 2
+        go false b = refl
+        go true b = refl
 
     pub sizes_same : kept ≡ n → sizes_number n r sheet leave t ≡ naive_sizes n r sheet leave t kept
     unfolding sizes_number naive_sizes
@@ -161,46 +156,7 @@ module _ (sheet leave : List ℤ) (n : ℕ) (t : List ℕ) where
   unfolding entries_number
   entries_5 e = rw e
 
--- ---- the length that is served
-
--- the length of a lattice, and 0 where its sizes are not served
-unfoldable pub served_length : ℕ → ℕ → ℕ
-served_length n r = cond (served n r) (binomial (n + r) n) 0
-
 -- the entries at multisets of at most r tiles
 pub within_length : (n r s : ℕ) → s ≤ r → at_most n s ≤ binomial (n + r) n
 unfolding at_most
 within_length n r s h = omega (arith, at_most_mono (le_refl n) h, ap (λ (k : ℕ). binomial k n) (add_comm r n))
-
--- of which the empty one is there
-some : (n : ℕ) → 1 ≤ at_most n 0
-unfolding at_most binomial
-some n = at_most_mono {n = 0} {m = n} {s = 0} {r = 0} (omega arith) (omega arith)
-
-abbrev pub size_in : Ranked → ℕ
-size_in (At k) = k
-size_in (Refuse k) = 0
-
-pub length_told : (n r : ℕ) {x : Ranked} → x ≡ len_answer n r → size_in x ≡ served_length n r
-unfolding len_answer served_length
-length_told n r e = ap size_in e ∙ go (served n r)
-  where
-    go : (b : Bool) → size_in (cond b (At (binomial (n + r) n)) (Refuse 1)) ≡ cond b (binomial (n + r) n) 0
-    go true = refl
-    go false = refl
-
-pub not_served : (n r : ℕ) {k : ℕ} → k ≡ served_length n r → k ≡ 0 → served n r ≡ false
-unfolding served_length
-not_served n r {k} e z = go (served n r) refl
-  where
-    go : (b : Bool) → served n r ≡ b → served n r ≡ false
-    go true s = absurd (let f : k ≡ binomial (n + r) n = rw s at e in omega (arith, f, z, within_length n r 0 (omega arith), some n))
-    go false s = s
-
-pub is_served : (n r : ℕ) {k : ℕ} → k ≡ served_length n r → (k ≡ 0 → ⊥) → (served n r ≡ true) × (k ≡ binomial (n + r) n)
-unfolding served_length
-is_served n r {k} e f = go (served n r) refl
-  where
-    go : (b : Bool) → served n r ≡ b → (served n r ≡ true) × (k ≡ binomial (n + r) n)
-    go true s = (s, rw s at e)
-    go false s = absurd (f (rw s at e))

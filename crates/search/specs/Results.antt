@@ -1,5 +1,5 @@
 -- What accepted calls give, for the layers above. Assumes nothing.
-use Rattle.std.specs.Prelude.{◌≡◌, refl, cond, ◌⊎◌, List, ℕ, ◌≤◌, ◌<◌, ℤ, pos, length, get_or, ◌≤ℤ◌, ◌<ℤ◌}
+use Rattle.std.specs.Prelude.{◌≡◌, refl, cond, ◌⊎◌, List, ℕ, ◌≤◌, ◌<◌, ℤ, pos, length, get_or, ◌≤ℤ◌, ◌<ℤ◌, Result}
 use Rattle.std.proofs.Common.{sym, ◌∙◌, subst, eq-or-lt_of_le, arith}
 use Rattle.std.proofs.Math.Path.{ap}
 use Rattle.std.proofs.Math.Logic.{inl, inr, ⊎_elim}
@@ -19,13 +19,13 @@ use Rattle.search.specs.BestKeep.{no_leave, leave_of, best_keep, best_keep_lem, 
 use Rattle.search.specs.Refusals.{Sized}
 use Rattle.search.specs.Answers.{given, best_number, best_value, Answered, Tabled, word, exchange, move_number, move_value, move_kind, refusal, Played}
 use Rattle.search.specs.declared.Kept.{Kept}
-use Rattle.search.specs.declared.calls.Best.{Best}
-use Rattle.search.specs.declared.calls.Move.{Move}
+use Rattle.search.specs.declared.calls.Play.{Play}
+use Rattle.refusal.specs.declared.Refusal.{Refusal}
 
 -- ---- best_equity_of
 
 -- an accepted call's value is the best that the contract names
-pub equity_best : {k : ℕ} {v : ℤ} {b : Best} → Answered k v b → best_number b ≡ 0 → best_value b ≡ v
+pub equity_best : {k : ℕ} {v : ℤ} {b : Result ℤ Refusal} → Answered k v b → best_number b ≡ 0 → best_value b ≡ v
 unfolding given
 equity_best h e = h.valued ∙ rw (sym h.numbered ∙ e)
 
@@ -48,7 +48,7 @@ module _ {n r : ℕ} {sheet leave entry exit : List ℤ} {answer : ℕ} (h : Tab
 
 -- ---- naive_best_equity
 
-module _ {n r : ℕ} {sheet leave : List ℤ} {t entry exit : List ℕ} {b : Move} (h : Played n r sheet leave t entry b exit) where
+module _ {n r : ℕ} {sheet leave : List ℤ} {t entry exit : List ℕ} {b : Result Play Refusal} (h : Played n r sheet leave t entry b exit) where
   module _ (accepted : move_number b ≡ 0) where
     no_refusal : refusal n r sheet leave t entry ≡ 0
     no_refusal = sym h.numbered ∙ accepted
@@ -106,12 +106,14 @@ module _ (leave : List ℤ) (n : ℕ) (t : List ℕ) (k : ℕ) where
   pub keep_playable : unplayable ≤ℤ (best_keep leave n t k).value
   keep_playable = ⊎_elim (λ l. <ℤ-≤ℤ l) (λ e. ≡-≤ℤ e.0) (best_keep_lem leave n t k).above.le
 
+  -- a part of the rack has a rank
+  pub rank_given : {r : ℕ} → Sized n r (length leave) (length leave) t → (q : List ℕ) → Within q t → rank_of n q < 4294967295
+  rank_given {r} s q h =
+      omega (arith, rank_below n r q (record { letters = part_length q t h ∙ s.letters; tiles = omega (arith, part_total q t h, s.tiles) }), length_lattice n r, s.sizes.few)
+
   -- where none is given, every part of k tiles has a value under UNPLAYABLE
   pub keep_none_left : {r : ℕ} → Sized n r (length leave) (length leave) t → best_keep leave n t k ≡ no_leave → (q : List ℕ) → Within q t → total q ≡ k → get_or leave (rank_of n q) (pos 0) <ℤ unplayable
   unfolding leave_of
   keep_none_left {r} s none q h e =
-      ⊎_elim (λ l. l) (λ m. absurd (omega (arith, m.1, ranked)))
+      ⊎_elim (λ l. l) (λ m. absurd (omega (arith, m.1, rank_given s q h)))
       (subst (KeptLe (leave_of leave n q)) none (keep_bound q h e)).le
-    where
-      ranked : rank_of n q < 4294967295
-      ranked = omega (arith, rank_below n r q (record { letters = part_length q t h ∙ s.letters; tiles = omega (arith, part_total q t h, s.tiles) }), length_lattice n r, s.sizes.few)

@@ -3,7 +3,7 @@
 use mathlib.Core.Path.{◌≡◌, refl, sym, ap, ◌∙◌, subst, transport}
 use mathlib.Core.Bool.{Bool, true, false, cond}
 use mathlib.Core.List.{List, [], ◌∷◌, ◌++◌}
-use Prim.Native.Nat.{ℕ, zero, suc, ◌+◌, ◌-◌, ◌≤◌, ◌<◌}
+use Prim.Native.Nat.{ℕ, zero, suc, ◌+◌, ◌-◌, ◌^◌, ◌≤◌, ◌<◌}
 use native.Mathlib.Nat.{add-zero, add-suc, le_refl}
 use native.Mathlib.Numerals.{add-one}
 use native.Mathlib.Omega.{arith}
@@ -12,7 +12,7 @@ use lib.Ieee.{Float, nan, binary64, add}
 use lib.ListN.{length, get_or, set, take, drop, take-append-drop}
 use lib.Seq.{set_out}
 use Rattle.laws.specs.Lists.{upto, concat_map, upto_zero, upto_suc, map_append, concat_map_append, concat_map_one}
-use Rattle.lattice.specs.Binomial.{positive}
+use Rattle.binomials.specs.Binomial.{positive}
 use Rattle.lattice.specs.Tally.{total, start}
 use Rattle.lattice.specs.Tallies.{count}
 use Rattle.lattice.specs.Step.{step, step_none, total_append}
@@ -140,6 +140,13 @@ module _ {t : List ℕ} {i s w : ℕ} (ready : Ready t i s w) where
           before = transport (λ k. sym e k < count (sym after k) (s + x)) (step_below (n - i) s x ready.before);
           inside = omega (arith, at_most_mono (le_refl n) more, ready.inside);
         }
+
+    -- and its rank fits
+    pub fits_next : {x : ℕ} → x < c + 1 → w + step (length t - i) (s + x) x < 2 ^ 64
+    fits_next {x} h =
+        let after : length t - (i - 1) ≡ suc (length t - i) = omega (arith, ready.letters) in
+        let below : w + step (length t - i) (s + x) x < count (suc (length t - i)) (s + x) = subst (λ (k : ℕ). w + step (length t - i) (s + x) x < count k (s + x)) after (ready_next h refl).before in
+        omega (arith, below, count_is (length t - i) (s + x), (room h).1)
 
 -- the letters of a leave end at its last letter
 pub spreads_at : {t : List ℕ} {stop numbers : ℕ} → Spreads t stop numbers → Spreads t (suc (stop - 1)) numbers

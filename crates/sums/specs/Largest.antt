@@ -1,9 +1,10 @@
 -- The largest absolute entry of a table, and what it bounds. Assumes nothing.
-use Rattle.std.specs.Prelude.{◌≡◌, refl, Bool, true, false, ◌&&◌, List, [], ◌∷◌, ◌++◌, ℕ, zero, suc, ◌+◌, ◌≤◌, ◌<◌, max, leb, ℤ, pos, length, take}
-use Rattle.std.proofs.Common.{sym, ap, ◌∙◌, leb-true, leb-false, le-leb, take-suc, le_of_eq, add-one, arith}
+use Rattle.std.specs.Prelude.{◌≡◌, refl, Bool, true, false, ◌&&◌, List, [], ◌∷◌, ◌++◌, ℕ, zero, suc, ◌+◌, ◌≤◌, max, leb, ℤ}
+use Rattle.std.proofs.Common.{sym, ap, ◌∙◌, leb-true, leb-false, le-leb, le_of_eq, arith}
 use Rattle.std.proofs.lemmas.Bool.{lt-leb}
 use Rattle.std.proofs.Math.IntN.{nat_abs}
 use Rattle.std.proofs.Math.Nat.{le_trans}
+use Rattle.std.specs.List.{fold}
 use Rattle.laws.specs.Integer.{at_ℤ, nat_abs-+ℤ}
 use Rattle.lattice.specs.Tally.{minus, rank_of}
 use Rattle.search.specs.Split.{worth, best_split, Bounded, small, all_of}
@@ -28,13 +29,11 @@ unfolding largest
 largest_snoc [] x = omega arith
 largest_snoc (y ∷ ys) x = let e = largest_snoc ys x in omega arith
 
-pub largest_none : (xs : List ℤ) → 0 ≡ largest (take 0 xs)
+-- read from the first on
+pub largest_fold : (m : ℕ) (xs : List ℤ) → fold (λ (a : ℕ) (x : ℤ). max a (nat_abs x)) m xs ≡ max m (largest xs)
 unfolding largest
-largest_none xs = refl
-
-pub largest_more : (xs : List ℤ) (i : ℕ) {a b : ℕ} → i < length xs → a ≡ largest (take i xs) → b ≡ max a (nat_abs (at_ℤ xs i)) → b ≡ largest (take (i + 1) xs)
-largest_more xs i h p q =
-    q ∙ ap (λ (k : ℕ). max k (nat_abs (at_ℤ xs i))) p ∙ sym (ap (λ (k : ℕ). largest (take k xs)) (add-one i) ∙ ap largest (take-suc xs i (pos 0) h) ∙ largest_snoc (take i xs) (at_ℤ xs i))
+largest_fold m [] = omega arith
+largest_fold m (x ∷ xs) = let e = largest_fold (max m (nat_abs x)) xs in omega arith
 
 -- no entry is beyond ±536,870,911 where the largest is not
 leb_max : (a b B : ℕ) → leb a B && leb b B ≡ leb (max a b) B

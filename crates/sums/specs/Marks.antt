@@ -18,7 +18,7 @@ use Rattle.laws.specs.Sums.{Additive, sum_in, sum_over, sum_over_ℤ, sum_append
 use Rattle.laws.specs.Integer.{nat_abs_add}
 use Rattle.laws.specs.Tests.{T-ext, T-both}
 use Rattle.whole.specs.Whole.{whole, Small}
-use Rattle.lattice.specs.Binomial.{binomial, binomial_self, binomial_one, symmetric, monotone}
+use Rattle.binomials.specs.Binomial.{binomial, binomial_self, binomial_one, symmetric, monotone}
 use Rattle.lattice.specs.Tally.{total, start, rank_of, parts, add_tile, total_nil, total_cons, rank_is, add_tile_is}
 use Rattle.lattice.specs.Step.{step, steps_before, step_is, step_none, within_steps, steps_before_append}
 use Rattle.lattice.specs.Rank.{rank_injective, length_add_tile}

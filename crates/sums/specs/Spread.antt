@@ -74,6 +74,11 @@ pub record Spreads (t : List ℕ) (stop numbers : ℕ) : Type 0 where
   pub high : stop ≤ length t
   pub racks : length t - stop + 1 < numbers
 
+-- both tables have their numbers added: num the values, den the ways
+pub record Added (places : List (ℕ × ℕ)) (values ways num₀ den₀ num₁ den₁ : List Float) : Type 0 where
+  pub num : num₁ ≡ add_each places values num₀
+  pub den : den₁ ≡ add_each places ways den₀
+
 -- ---- the table
 
 pub length_add_one : (i : ℕ) (x : Float) (xs : List Float) → length (add_one i x xs) ≡ length xs

@@ -1,14 +1,9 @@
--- What guards the sums: the weight of a pool, the largest entry of a table, and tables that are clear. Assumes nothing.
-use Rattle.std.specs.Prelude.{◌≡◌, List, [], ◌∷◌, ℕ, ◌<◌, min, max, Float, ℤ, pos, nat_abs, length, get_or}
+-- What guards the sums: the largest entry of a table, and tables that are clear. Assumes nothing.
+use Rattle.std.specs.Prelude.{◌≡◌, List, [], ◌∷◌, ℕ, ◌<◌, max, Float, ℤ, pos, nat_abs, length, get_or}
 use Rattle.std.specs.Float.{nan}
 use Rattle.whole.specs.Whole.{whole}
-use Rattle.lattice.specs.Binomial.{binomial}
 
--- W: C(tiles, k), and 2 ^ 53 + 1 where it is above 2 ^ 53
-unfoldable pub weight_of : ℕ → ℕ → ℕ
-weight_of tiles k = min (binomial tiles k) 9007199254740993
-
--- "largest absolute sheet", "largest absolute leave"
+-- the largest absolute entry of a table
 unfoldable pub largest : List ℤ → ℕ
 largest [] = 0
 largest (z ∷ zs) = max (nat_abs z) (largest zs)

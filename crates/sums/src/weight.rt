@@ -1,121 +1,99 @@
-// What guards the sums: the number of hands as far as an f64 can hold it, the limit on it, and tables that are clear on entry.
-ghost use Rattle.std.specs.Prelude.{◌≡◌, true, false, ◌+◌, ◌*◌, ◌≤◌, ◌<◌, ◌^◌, max, nat_abs, length};
+//! What guards the sums: the number of hands as far as an f64 can hold it, the limit on it, and
+//! tables that are clear on entry.
+ghost use Rattle.std.specs.Prelude.{◌≡◌, ◌↔◌, ◌+◌, ◌*◌, ◌≤◌, ◌<◌, ◌^◌, max, nat_abs, length, IsTrue, SomeIff};
 ghost use Rattle.lattice.specs.AddRows.{Decides};
-ghost use Rattle.lattice.specs.Binomial.{binomial};
+ghost use Rattle.binomials.specs.Binomial.{binomial};
 ghost use Rattle.lattice.specs.Tally.{total};
-ghost use Rattle.sums.specs.Weight.{weight_of, largest, Clear};
+ghost use Rattle.sums.specs.Weight.{largest, Clear};
 
-// A pool's count of a letter.
+use whole::is_clear;
+
+/// Up to here each whole number is an f64.
+const LIMIT: u64 = 9_007_199_254_740_992;
+
+/// A product that is at most so large is made in a u64 before it is divided.
+const WIDEST: u64 = 9_223_372_036_854_775_808;
+
+/// A pool's count of a letter. The one place that reads it (C): counts shall get wider.
 pub fn held(count: u8) -> usize
-    ensures { (result ≡ count) × (result ≤ 255) }
+    ensures same { result ≡ count }
+    ensures byte { result ≤ 255 }
 {
-    count as usize
+    usize::from(count)
 }
 
-// How many tiles a pool has.
+/// How many tiles a pool has.
 pub fn tiles_in(pool: &[u8]) -> usize
     requires { length pool.now ≤ 64 }
     ensures { result ≡ total pool.now }
 {
-    let mut tiles: usize = 0;
-    for i in 0..pool.len() {
-        tiles += pool[i] as usize;
-    }
-    tiles
+    pool.iter().map(|&count| held(count)).sum()
 }
 
-// C(tiles, k), and 2^53 + 1 where it is above 2^53. Where it first is above, it stays so up to k: with k to 15 and so many tiles
-// the binomials ascend.
-pub fn weight(tiles: usize, k: usize) -> u64
+/// C(tiles, k), where it is at most 2^53. Where it first is above, it stays so up to k: with k to
+/// 15 and so many tiles the binomials ascend.
+pub fn weight(tiles: usize, k: usize) -> Option<u64>
     requires { k ≤ 15 }
-    ensures { result ≡ weight_of tiles k }
+    ensures { SomeIff result (binomial tiles k ≤ 2 ^ 53) (binomial tiles k) }
 {
     if tiles < k {
-        return 0;
+        return Some(0);
     }
-    let mut b: u64 = 1;
-    let mut j: usize = 1;
-    while j <= k {
-        let m = (tiles - (j - 1)) as u64;
-        if 9223372036854775808 / m < b {
-            return 9007199254740993;
+    let mut hands = 1;
+    // Not by try_fold (N): both tests leave early, and say of which turn they are.
+    for j in 0..k {
+        let left = (tiles - j) as u64;
+        if WIDEST / left < hands {
+            return None;
         }
-        b = b * m / j as u64;
-        if 9007199254740992 < b {
-            return 9007199254740993;
+        hands = hands * left / (j + 1) as u64;
+        if LIMIT < hands {
+            return None;
         }
-        j += 1;
     }
-    b
+    Some(hands)
 }
 
-// The size of a number.
-fn size_of(x: i32) -> u64
-    ensures { result ≡ nat_abs x }
-{
-    let wide = x as i64;
-    if wide < 0 {
-        (-wide) as u64
-    } else {
-        wide as u64
-    }
-}
-
-// The larger of most and of the size of a number.
+/// The larger of most and of the size of a number.
 pub fn larger(most: u64, x: i32) -> u64
     ensures { result ≡ max most (nat_abs x) }
 {
-    let size = size_of(x);
-    if most < size { size } else { most }
+    most.max(u64::from(x.unsigned_abs()))
 }
 
-// The largest size of an entry.
+/// The largest size of an entry.
 pub fn largest(entries: &[i32]) -> u64
     ensures { result ≡ largest entries.now }
 {
-    let mut most: u64 = 0;
-    for i in 0..entries.len() {
-        most = larger(most, entries[i]);
-    }
-    most
+    entries.iter().fold(0, |most, &x| larger(most, x))
 }
 
-// Whether weight * most is at most 2^53.
+/// Whether weight * most is at most 2^53.
 pub fn within_limit(weight: u64, most: u64) -> bool
     requires { 0 < most }
-    ensures { (result ≡ true → weight * most ≤ 2 ^ 53) × (weight * most ≤ 2 ^ 53 → result ≡ true) }
+    ensures { IsTrue result ↔ (weight * most ≤ 2 ^ 53) }
 {
-    weight <= 9007199254740992 / most
+    weight <= LIMIT / most
 }
 
-// The sum of two sizes, and at least 16.
-fn at_least_16(a: u64, b: u64) -> u64
-    requires { a + b < 2 ^ 64 }
-    ensures { result ≡ max 16 (a + b) }
-{
-    let sum = a + b;
-    if sum < 16 { 16 } else { sum }
-}
-
-// Whether all hands, times the largest sheet plus the largest leave and at least 16, are at most 2^53.
+/// Whether all hands, times the largest sheet plus the largest leave and at least 16, are at most
+/// 2^53.
 pub fn within_weight(pool: &[u8], r: usize, sheet: u64, leave: u64) -> bool
-    requires { (length pool.now ≤ 64) × (r ≤ 15) × (sheet ≤ 536870911) × (leave ≤ 536870911) }
+    requires letters { length pool.now ≤ 64 }
+    requires tiles { r ≤ 15 }
+    requires sheet { sheet ≤ 536870911 }
+    requires leave { leave ≤ 536870911 }
     ensures { Decides result (binomial (total pool.now) r * max 16 (sheet + leave) ≤ 2 ^ 53) }
 {
-    within_limit(weight(tiles_in(pool), r), at_least_16(sheet, leave))
+    match weight(tiles_in(pool), r) {
+        Some(hands) => within_limit(hands, (sheet + leave).max(16)),
+        None => false,
+    }
 }
 
-// Whether every entry is +0.0.
+/// Whether every entry is +0.0.
 pub fn all_clear(xs: &[f64]) -> bool
-    ensures { (result ≡ true → Clear xs.now) × (result ≡ false → Clear xs.now → ⊥) }
+    ensures { IsTrue result ↔ Clear xs.now }
 {
-    let mut i: usize = 0;
-    while i < xs.len() {
-        if whole::is_clear(xs[i]) {
-            i += 1;
-        } else {
-            return false;
-        }
-    }
-    true
+    xs.iter().all(|&x| is_clear(x))
 }

@@ -6,7 +6,7 @@ use mathlib.Core.List.{List}
 use Prim.Native.Nat.{ℕ, ◌+◌}
 use Rattle.laws.specs.Sums.{integers}
 use Rattle.whole.specs.Whole.{whole}
-use Rattle.lattice.specs.Binomial.{binomial}
+use Rattle.binomials.specs.Binomial.{binomial}
 use Rattle.hands.specs.Hands.{ways}
 use Rattle.hands.proofs.Hands.{hand_sum_cond}
 use Rattle.hands.specs.Fold.{partial_pos}

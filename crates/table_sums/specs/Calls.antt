@@ -9,7 +9,7 @@ use native.Mathlib.Omega.{arith}
 use Rattle.std.specs.Float.{nan}
 use Rattle.std.proofs.Math.ListN.{get_or-append}
 use Rattle.whole.specs.Whole.{whole}
-use Rattle.lattice.specs.Binomial.{binomial}
+use Rattle.binomials.specs.Binomial.{binomial}
 use Rattle.lattice.specs.Tally.{total, start, rank_of, tallies, start_suc}
 use Rattle.lattice.specs.Tallies.{Fits, start_count, start_mono}
 use Rattle.lattice.specs.Rank.{AtMost, rank_below, rank_from}
@@ -17,14 +17,11 @@ use Rattle.lattice.specs.Lattice.{length_lattice_start, start_next}
 use Rattle.lattice.specs.Leaves.{leave_rank}
 use Rattle.lattice.specs.Answers.{served, len_answer}
 use Rattle.lattice.specs.Numbers.{value}
-use Rattle.lattice.specs.declared.Ranked.{Ranked}
-use Rattle.lattice.specs.declared.Ranked.TheVariants.{At, Refused}
 use Rattle.lattice.specs.Served.{Served, facts}
 use Rattle.hands.specs.Hands.{holds, ways}
 use Rattle.hands.proofs.Hands.{ways_drawable}
 use Rattle.fused.specs.Racks.{Pool, RackWays}
-use Rattle.sums.specs.Weight.{weight_of, Clear}
-use Rattle.sums.specs.Limit.{limit_there, limit_back}
+use Rattle.sums.specs.Weight.{Clear}
 use Rattle.table_sums.specs.Table.{best_at, most_best, Sized, Limit, Filled, Verdict, accepted, limits, Apportioned}
 use Rattle.table_sums.specs.Racks.{most_from, Cleared}
 use Rattle.table_sums.specs.Dealt.{Ways, most_is}
@@ -58,7 +55,7 @@ pub record Dealing (w r : ℕ) (best : List ℤ) (pool : List ℕ) (num den : Li
   pub lengths : Sized (length pool) r best pool num den
   pub nums : Clear num
   pub dens : Clear den
-  pub weight : w ≡ weight_of (total pool) r
+  pub weight : w ≡ binomial (total pool) r
   pub small : binomial (total pool) r * 16 ≤ 2 ^ 53
 
 -- what is left where all but the limit on the bests holds
@@ -175,10 +172,10 @@ module _ {w r : ℕ} {best : List ℤ} {pool : List ℕ} {num den : List Float} 
           omega (arith, most_best_lem)
 
       pub limit_holds : w * most ≤ 2 ^ 53 → Limit (length pool) r best pool
-      limit_holds h = record { within = rw (← most_best_lem) (limit_there (total pool) r some_most d.weight h) }
+      limit_holds h = record { within = rw (← most_best_lem, ← d.weight) h }
 
       pub limit_fails : (w * most ≤ 2 ^ 53 → ⊥) → Limit (length pool) r best pool → ⊥
-      limit_fails f h = f (limit_back (total pool) r some_most d.weight (rw most_best_lem h.within))
+      limit_fails f h = f (rw (d.weight, most_best_lem) h.within)
 
       pub summing : w * most ≤ 2 ^ 53 → Summing r lo best pool num den'
       summing h = record {
@@ -225,33 +222,19 @@ module _ {n r : ℕ} {best : List ℤ} {pool : List ℕ} {num den : List Float} 
 pub beyond_least : {n r : ℕ} {best : List ℤ} {pool : List ℕ} → (binomial (total pool) r * 16 ≤ 2 ^ 53 → ⊥) → Limit n r best pool → ⊥
 beyond_least {n} {r} {best} {pool} f l = f (le_trans (mul-le-mul_left (binomial (total pool) r) (le-max_left 16 _)) l.within)
 
--- what the lattice's length tells
-abbrev refusals : Ranked → ℕ
-refusals (At v) = 0
-refusals (Refused k) = 1
-
-module _ (n r : ℕ) where
-  pub told_served : {k : ℕ} → At k ≡ len_answer n r → (served n r ≡ true) × (k ≡ binomial (n + r) n)
-  unfolding len_answer
-  told_served {k} e = go (served n r) refl e
-    where
-      go : (b : Bool) → served n r ≡ b → At k ≡ cond b (At (binomial (n + r) n)) (Refused 1) → (served n r ≡ true) × (k ≡ binomial (n + r) n)
-      go true s q = (s, ap value q)
-      go false s q = absurd (let z : ◌≡◌ {A = ℕ} 0 1 = ap refusals q in omega arith)
-
-  pub told_refused : {k : ℕ} → Refused k ≡ len_answer n r → served n r ≡ true → ⊥
-  unfolding len_answer
-  told_refused {k} e s =
-      let q : Refused k ≡ At (binomial (n + r) n) = e ∙ ap (λ (b : Bool). cond b (At (binomial (n + r) n)) (Refused 1)) s in
-      let z : ◌≡◌ {A = ℕ} 1 0 = ap refusals q in
-      omega arith
+-- the slices have the lengths that a lattice of so many multisets and n letters asks
+pub record HaveSize (size n : ℕ) (best : List ℤ) (pool : List ℕ) (num den : List Float) : Type 0 where
+  pub bests : length best ≡ size
+  pub letters : length pool ≡ n
+  pub nums : length num ≡ size
+  pub dens : length den ≡ size
 
 module _ {n r size : ℕ} {best : List ℤ} {pool : List ℕ} {num den : List Float} (e : size ≡ binomial (n + r) n) where
-  pub sized_of : (length best ≡ size) × (length pool ≡ n) × (length num ≡ size) × (length den ≡ size) → Sized n r best pool num den
-  sized_of h = record { bests = h.0 ∙ e; letters = h.1; nums = h.2 ∙ e; dens = h.3 ∙ e }
+  pub sized_of : HaveSize size n best pool num den → Sized n r best pool num den
+  sized_of h = record { bests = h.bests ∙ e; letters = h.letters; nums = h.nums ∙ e; dens = h.dens ∙ e }
 
-  pub not_sized : ((length best ≡ size) × (length pool ≡ n) × (length num ≡ size) × (length den ≡ size) → ⊥) → Sized n r best pool num den → ⊥
-  not_sized f s = f (s.bests ∙ sym e, s.letters, s.nums ∙ sym e, s.dens ∙ sym e)
+  pub not_sized : (HaveSize size n best pool num den → ⊥) → Sized n r best pool num den → ⊥
+  not_sized f s = f (record { bests = s.bests ∙ sym e; letters = s.letters; nums = s.nums ∙ sym e; dens = s.dens ∙ sym e })
 
 -- over the pool's own letters
 pub own_sized : {n r : ℕ} {best : List ℤ} {pool : List ℕ} {num den : List Float} → Sized n r best pool num den → Sized (length pool) r best pool num den

@@ -19,7 +19,7 @@ use Rattle.laws.specs.Sums.{integers, select}
 use Rattle.laws.specs.Tests.{T→true, not_true, T-ext}
 use Rattle.whole.specs.Whole.{whole}
 use Rattle.whole.proofs.Steps.{above_zero, mul_whole_above}
-use Rattle.lattice.specs.Binomial.{binomial}
+use Rattle.binomials.specs.Binomial.{binomial}
 use Rattle.lattice.specs.Tally.{total, tallies, start, rank_of, rank_is}
 use Rattle.lattice.specs.Tallies.{Fits, tally_at_fits, within_at, tallies_all}
 use Rattle.lattice.specs.Rank.{AtMost, rank_below, rank_from}

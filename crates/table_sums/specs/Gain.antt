@@ -6,7 +6,7 @@ use Rattle.std.specs.Float.{nan, binary64}
 use Rattle.std.specs.Float.Ieee.{add}
 use Rattle.std.proofs.Math.Nat.{suc_inj}
 use Rattle.std.proofs.Math.Decide.{dec_lt, ℕ_discrete}
-use Rattle.lattice.specs.Binomial.{binomial}
+use Rattle.binomials.specs.Binomial.{binomial}
 use Rattle.lattice.specs.Tally.{total, within, add_tile, total_cons, start_suc}
 use Rattle.lattice.specs.Tallies.{count, count_suc, Fits, within_bump}
 use Rattle.lattice.specs.Step.{step}

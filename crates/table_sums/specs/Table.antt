@@ -5,7 +5,7 @@ use Rattle.std.specs.Float.{nan}
 use Rattle.laws.specs.Integer.{at_ℤ}
 use Rattle.laws.specs.Sums.{select}
 use Rattle.whole.specs.Whole.{whole}
-use Rattle.lattice.specs.Binomial.{binomial}
+use Rattle.binomials.specs.Binomial.{binomial}
 use Rattle.lattice.specs.Tally.{total, tallies, rank_of}
 use Rattle.lattice.specs.Rank.{AtMost}
 use Rattle.lattice.specs.Answers.{served}

@@ -39,7 +39,7 @@ fn fill_value(best: &[i32], ways: &[f64], num: &mut [f64], k: usize)
     }
 }
 
-// The same for each rack from lo on.
+// The same for each rack from lo on. By index, as the next: after `iter_mut` a proof knows no entry.
 pub fn fill_values(lo: usize, best: &[i32], ways: &[f64], num: &mut [f64])
     requires { (lo ≤ length best.now) × (length best.now ≡ length ways.now) × (length best.now ≡ length num.old) }
     ensures { Valued lo best.now ways.now (length best.now) num.old num.new }

@@ -1,15 +1,15 @@
-// The cases of a list, each run through the call that it names and compared with its record.
+//! The cases of a list, each run through the call that it names and compared with its record.
 #![tactic(auto)]
 
-pub mod board;
-mod fused_form;
-mod leave_values;
-pub mod outcome;
-mod outputs;
-mod plays;
-mod ranks;
-pub mod serve;
-mod subsets;
-mod table_form;
-mod tables;
-mod variants;
+mod answer;
+mod case;
+mod lent;
+mod outcome;
+mod play_calls;
+mod rank_calls;
+mod sum_calls;
+mod table_calls;
+mod variant_calls;
+
+pub use case::{Case, MOST_NUMBERS};
+pub use outcome::Outcome;

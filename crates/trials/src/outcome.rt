@@ -1,27 +1,10 @@
-// What came of a record.
-#[derive(Clone, Copy)]
+/// What came of a record.
+#[derive(Clone, Copy, Debug, PartialEq, Eq, Hash)]
 pub enum Outcome {
     Agreed,
     Differed,
+    /// It names no call of the format.
     NotServed,
-    // It was no call: it set what later calls use.
+    /// It gave a list that later records use.
     Set,
-}
-
-// The outcome of a call that is served.
-pub fn said(right: bool) -> Outcome {
-    if right {
-        Outcome::Agreed
-    } else {
-        Outcome::Differed
-    }
-}
-
-// The outcome of a record that sets what later calls use.
-pub fn set(right: bool) -> Outcome {
-    if right {
-        Outcome::Set
-    } else {
-        Outcome::Differed
-    }
 }

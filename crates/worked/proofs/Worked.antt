@@ -1,8 +1,8 @@
--- Document 01's lines marked [P]: the theorem of the table in specs/Worked. Assumes nothing.
+-- The worked examples of docs/SCOPE.md: the theorem of the table in specs/Worked. Assumes nothing.
 use Rattle.std.specs.Prelude.{◌≡◌, refl}
 use Rattle.laws.specs.Integer.{max_ℤ}
 use Rattle.laws.specs.Lists.{upto, concat_map}
-use Rattle.lattice.specs.Binomial.{binomial, row, below, by_row}
+use Rattle.binomials.specs.Binomial.{binomial, row, below, by_row}
 use Rattle.lattice.specs.Tally.{total, tallies, lattice, start, within, rank_of, minus, parts}
 use Rattle.lattice.specs.Answers.{served, len_answer, rank_answer}
 use Rattle.search.specs.Split.{worth, best_from, best_of, best_split}

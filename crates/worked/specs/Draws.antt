@@ -1,4 +1,4 @@
--- Document 01's examples of draws, read off the definitions.
+-- The examples of draws in docs/SCOPE.md, read off the definitions.
 use Rattle.std.specs.Prelude.{◌≡◌, refl, true, ℕ, ◌+◌, ◌*◌, ◌^◌, ◌≤◌, max, ℤ, pos, nat_abs, ◌*ℤ◌, replicate}
 use Rattle.std.proofs.Math.Path.{ap}
 use Rattle.std.proofs.Common.{ap₂, ◌∙◌, arith, lit≤}
@@ -7,7 +7,7 @@ use Rattle.laws.specs.Integer.{at_ℤ}
 use Rattle.laws.specs.Lists.{upto, concat_map}
 use Rattle.laws.specs.Sums.{Additive, integers, sum_in, plus_none}
 use Rattle.whole.specs.Mean.{mean}
-use Rattle.lattice.specs.Binomial.{binomial, row, below, by_row}
+use Rattle.binomials.specs.Binomial.{binomial, row, below, by_row}
 use Rattle.lattice.specs.Tally.{total, tallies, lattice, tally_at, start, within, rank_of, plus}
 use Rattle.lattice.specs.Answers.{served}
 use Rattle.lattice.specs.Leaves.{AddTable}

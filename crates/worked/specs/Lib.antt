@@ -1,3 +1,3 @@
--- Document 01's worked examples.
+-- The worked examples of docs/SCOPE.md.
 pub mod Draws
 pub mod Worked

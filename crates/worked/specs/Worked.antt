@@ -1,8 +1,9 @@
--- Document 01's lines marked [P]: one table of what each says of the definitions. proofs/Worked has its theorem. Assumes nothing.
+-- The worked examples (docs/SCOPE.md, "Worked examples"): one table of what each says of the definitions. proofs/Worked has its theorem. Assumes nothing.
 use Rattle.std.specs.Prelude.{◌≡◌, List, [], ◌∷◌, ℕ, ℤ, pos, negsuc, replicate}
 use Rattle.whole.specs.Mean.{mean, unplayable}
 use Rattle.lattice.specs.Answers.{len_answer, rank_answer}
-use Rattle.lattice.specs.Numbers.{none, number, value}
+use Rattle.refusal.specs.Refusal.{number_of}
+use Rattle.lattice.specs.Numbers.{none, value}
 use Rattle.search.specs.Split.{best_split}
 use Rattle.search.specs.Order.{kept}
 use Rattle.search.specs.BestKeep.{best_keep}
@@ -66,7 +67,7 @@ Says ranks =
     × (value (rank_answer 3 2 (2 ∷ 0 ∷ 0 ∷ [])) ≡ 9)
     × (value (rank_answer 3 2 (1 ∷ 1 ∷ 1 ∷ [])) ≡ none)
 -- n 64, r 7: length 1,329,890,705; r 8 is refused with 1
-Says lengths = (value (len_answer 64 7) ≡ 1329890705) × (number (len_answer 64 8) ≡ 1)
+Says lengths = (value (len_answer 64 7) ≡ 1329890705) × (number_of (len_answer 64 8) ≡ 1)
 -- the listing above
 Says listing = listing_of input ≡ output
 -- its bests 10 and 30

@@ -1,4 +1,4 @@
-// A program over `subject`, the original or this crate, that says all that it is given. Its boards are inside document 01's domain.
+// A program over `subject`, the original or this crate, that says all that it is given. Its boards are inside docs/SCOPE.md's domain.
 use crate::inputs;
 use crate::rng::Rng;
 use subject::{AddTable, ApportionBoard, ApportionMode, ApportionOut, MultisetLattice, Pascal, UNPLAYABLE};

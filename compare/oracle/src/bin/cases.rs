@@ -1,5 +1,5 @@
 // Writes a list of cases for a replay (format: compare/README.md). Each accepted call goes through the original and through the plain model
-// of document 01; a disagreement is told on standard error, and the exit status is then 1.
+// of docs/SCOPE.md; a disagreement is told on standard error, and the exit status is then 1.
 //   cases SEED SCALE > LIST        SCALE 0 has ranks and refusals only; each step adds boards and lattices
 use oracle::calls::{self, Sums, add_table};
 use oracle::census::*;
@@ -13,7 +13,7 @@ use std::io::Write;
 struct List<W: Write> {
     w: W,
     cases: u64,
-    // of those, from the document alone
+    // of those, from docs/SCOPE.md alone
     document: u64,
     wrong: u64,
     // what a reader's buffers must hold: the longest lattice with a board, its largest table of ranks, the longest record
@@ -23,7 +23,7 @@ struct List<W: Write> {
 }
 
 impl<W: Write> List<W> {
-    // source 0: the original gave the answer; 1: the document alone does
+    // source 0: the original gave the answer; 1: docs/SCOPE.md alone does
     fn put(&mut self, op: i128, source: bool, rest: &Rest) {
         let Rest(rest) = rest;
         let mut line = format!("{} {} {}", rest.len() + 2, op, source as i128);
@@ -817,7 +817,7 @@ fn main() {
     let list = &mut g.list;
     list.w.write_all(b"0\n").unwrap();
     list.w.flush().unwrap();
-    eprintln!("{} cases, {} of them from the document alone, {} disagreements", list.cases, list.document, list.wrong);
+    eprintln!("{} cases, {} of them from docs/SCOPE.md alone, {} disagreements", list.cases, list.document, list.wrong);
     eprintln!("longest lattice with a board {}, largest table {}, longest record {}", list.length, list.table, list.record);
     std::process::exit((list.wrong > 0) as i32);
 }

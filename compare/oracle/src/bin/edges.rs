@@ -1,4 +1,4 @@
-// What the original does with inputs outside or at the edge of document 01's domain. Each runs in a process of its own, so that a panic, an
+// What the original does with inputs outside or at the edge of docs/SCOPE.md's domain. Each runs in a process of its own, so that a panic, an
 // abort or a crash is told. Run it in both profiles: release (sums wrap) and checked (they panic; unchecked reads abort).
 //   edges            all
 //   edges NUMBER     one, in this process
@@ -9,7 +9,7 @@ use oracle::model::Mode;
 use oracle::prob::Pascal;
 use std::process::Command;
 
-// the input; what document 01 says; what the original gives
+// the input; what docs/SCOPE.md says; what the original gives
 type Edge = (&'static str, &'static str, fn() -> String);
 
 fn lat(n: usize, r: usize) -> MultisetLattice {

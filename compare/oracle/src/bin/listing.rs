@@ -1,7 +1,7 @@
 // Writes inputs for the census listing with what it must print, K.in and K.out, into a folder. The original has no such program: the sums are
-// its apportion_fused over best splits, and the model's; the text and the refusals are document 01's.
+// its apportion_fused over best splits, and the model's; the text and the refusals are docs/SCOPE.md's.
 //   listing SEED COUNT FOLDER
-// Or runs a listing program on document 01's text with each byte changed, doubled or taken out, and cut at each place, and compares what it
+// Or runs a listing program on docs/SCOPE.md's text with each byte changed, doubled or taken out, and cut at each place, and compares what it
 // prints with a plain reading of the text:
 //   listing damaged PROGRAM
 use oracle::calls::{self, Sums, add_table};

@@ -143,7 +143,7 @@ fn main() {
                         let (v, kept) = calls::naive(&lat, &sheet, &leave, &t);
                         assert_eq!((0, v as i128), (f.next(), f.next()));
                         assert_eq!(kept, f.counted::<u8>());
-                        // the kind is the document's
+                        // the kind is that of docs/SCOPE.md
                         let played = model::minus(&t, &kept);
                         let kind = if sheet[lat.rank(&played) as usize] > 0 { 1 } else { 2 };
                         assert_eq!(kind, f.next());
@@ -237,8 +237,8 @@ fn main() {
         assert_eq!(f.at, end, "a record of call {op} was read to another end");
     }
     assert_eq!(f.at, f.all.len(), "text after the last record");
-    println!("{sizes} lattices, {replayed} calls replayed and right, {skipped} from the document alone");
+    println!("{sizes} lattices, {replayed} calls replayed and right, {skipped} from docs/SCOPE.md alone");
     for (op, (rust, document)) in per_op {
-        println!("  call {op}: {rust} from the original, {document} from the document");
+        println!("  call {op}: {rust} from the original, {document} from docs/SCOPE.md");
     }
 }

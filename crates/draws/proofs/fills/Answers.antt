@@ -7,32 +7,32 @@ use borrow.Author.Tests.{ltb-true, ltb-false}
 use Rattle.lattice.specs.Tally.{start}
 use Rattle.lattice.specs.Served.{Served, facts}
 use Rattle.draws.specs.Leave.{size_fills, fills_size}
-use Rattle.draws.proofs.fills.Goals.{Else-r-draw}
+use Rattle.draws.proofs.fills.Goals.{Else-sizes-draw}
 use Rattle.draws.proofs.fills.Goals as goal
 
 -- the sizes
-sizes : (c : goal.Else-r-draw) → Served c.args.n c.args.r
-sizes c = facts c.args.n c.args.r c.requires
+sizes : (c : goal.Else-sizes-draw) → Served c.args.sizes.n c.args.sizes.r
+sizes c = facts c.args.sizes.n c.args.sizes.r c.args.sizes.is_served
 
 pub start_of-requires : goal.start_of-requires
-start_of-requires c = ((sizes c).letters, omega (arith, (sizes c).tiles))
+start_of-requires c = let s = sizes (goal.at.start_of-requires c).Else-sizes-draw in record { letters = s.letters; tiles = omega (arith, s.tiles) }
 
 pub returns-then-at-start_of : goal.returns-then-at-start_of
 returns-then-at-start_of c =
-    let a = c.args in
-    record { yes = λ e. absurd (let z : ◌≡◌ {A = ℕ} 0 1 = cc in omega arith); no = λ e f. absurd (omega (arith, (fills_size a.n a.r a.s_ridx a.draw f).1.from, c.start_of.ensures)) }
+    let a = c.args.sizes in
+    record { yes = λ e. absurd (let z : ◌≡◌ {A = ℕ} 0 1 = cc in omega arith); no = λ e f. absurd (omega (arith, (fills_size a.n a.r c.args.s_ridx c.args.draw f).1.from, c.start_of.ensures)) }
 
 pub overflow_add-s : goal.overflow_add-s
-overflow_add-s c = omega (arith, (sizes (goal.at.overflow_add-s c).Else-r-draw).tiles)
+overflow_add-s c = omega (arith, (sizes (goal.at.overflow_add-s c).Else-sizes-draw).tiles)
 
 pub start_of-requires-2 : goal.start_of-requires-2
-start_of-requires-2 c = ((sizes (goal.at.start_of-requires-2 c).Else-r-draw).letters, omega (arith, (sizes (goal.at.start_of-requires-2 c).Else-r-draw).tiles))
+start_of-requires-2 c = let s = sizes (goal.at.start_of-requires-2 c).Else-sizes-draw in record { letters = s.letters; tiles = omega (arith, s.tiles) }
 
 pub returns : goal.returns
 returns c =
-    let a = c.args in
-    let next : c.start_of-2.result ≡ start a.n (suc (a.r - a.draw)) = c.start_of-2.ensures ∙ ap (start a.n) (add-one (a.r - a.draw)) in
+    let a = c.args.sizes in
+    let next : c.start_of-2.result ≡ start a.n (suc (a.r - c.args.draw)) = c.start_of-2.ensures ∙ ap (start a.n) (add-one (a.r - c.args.draw)) in
     record {
-      yes = λ e. size_fills a.n a.r a.s_ridx a.draw (omega arith) (record { from = omega (arith, c.start_of.ensures); to = omega (arith, ltb-true a.s_ridx c.start_of-2.result e, next) });
-      no = λ e f. absurd (omega (arith, (fills_size a.n a.r a.s_ridx a.draw f).1.to, ltb-false a.s_ridx c.start_of-2.result e, next));
+      yes = λ e. size_fills a.n a.r c.args.s_ridx c.args.draw (omega arith) (record { from = omega (arith, c.start_of.ensures); to = omega (arith, ltb-true c.args.s_ridx c.start_of-2.result e, next) });
+      no = λ e f. absurd (omega (arith, (fills_size a.n a.r c.args.s_ridx c.args.draw f).1.to, ltb-false c.args.s_ridx c.start_of-2.result e, next));
     }

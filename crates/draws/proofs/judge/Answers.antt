@@ -1,45 +1,69 @@
--- `draws::judge` meets its contract: the tests go in the order of the numbers. Assumes nothing.
-use mathlib.Core.Path.{◌≡◌, sym, ap, ◌∙◌}
-use Prim.Native.Nat.{ℕ, ◌*◌}
-use native.Mathlib.Omega.{arith}
+-- The tests go in the order of the numbers. Assumes nothing.
+use Rattle.std.proofs.Common.{◌≡◌, ◌*◌, sym, ap, ◌∙◌, arith}
+use Rattle.std.proofs.lemmas.Result.{err_from_is_err_and}
 use Rattle.lattice.specs.Tally.{start}
 use Rattle.lattice.specs.Served.{facts}
+use Rattle.lattice.specs.declared.sizes.Sizes.{Sizes}
 use Rattle.lattice.proofs.AddWalk.{table_fits}
 use Rattle.draws.specs.Draws.{Lengths}
-use Rattle.draws.specs.Draws.DrawNumber.{lengths, place, rule}
-use Rattle.draws.proofs.Answer.{judged_no}
-use Rattle.draws.proofs.judge.Goals.{After-fills, After-start_of-rows}
+use Rattle.draws.specs.Draws.DrawNumber.{sizes, lengths, place, rule}
+use Rattle.draws.proofs.Answer.{judged_no, judged_yes}
+use Rattle.draws.proofs.judge.Goals.{After-fills}
 use Rattle.draws.proofs.judge.Goals as goal
 
-pub start_of-rows-requires : goal.start_of-rows-requires
-start_of-rows-requires c =
-    let s = facts c.args.n c.args.r c.requires.0 in
-    (s.letters, omega (arith, s.tiles))
-
 -- the table's length
-size : (c : goal.After-start_of-rows) → c.start_of-rows.result * c.args.n ≡ start c.args.n c.args.r * c.args.n
-size c = ap (λ (k : ℕ). k * c.args.n) c.start_of-rows.ensures
+whole : (s : Sizes) → s.leaves * s.n ≡ start s.n s.r * s.n
+whole s = ap (λ k. k * s.n) s.starts
 
-pub overflow_mul-rows : goal.overflow_mul-rows
-overflow_mul-rows c =
-    let a = c.args in
-    omega (arith, size c, table_fits a.n a.r (facts a.n a.r c.requires.0))
+pub returns-in_err-sizes : goal.returns-in_err-sizes
+returns-in_err-sizes c =
+    let p = err_from_is_err_and c.from_residual.result c.from_residual.ensures.1 in
+    rw (p.1, p.2, c.in_err-sizes.ensures.0) (judged_no 0 (sizes c.in_err-sizes.ensures.1))
 
-pub returns-then-add-rows : goal.returns-then-add-rows
-returns-then-add-rows c = judged_no 1 (lengths c.requires.0 (λ l. c.if-add-rows.true (l.in_add ∙ sym (size (goal.at.returns-then-add-rows c).After-start_of-rows))))
+pub overflow_mul-sizes : goal.overflow_mul-sizes
+overflow_mul-sizes c =
+    let s = c.in_ok-sizes.sizes in
+    omega (arith, whole s, table_fits s.n s.r (facts s.n s.r s.is_served))
 
-pub returns-then-full_v-size : goal.returns-then-full_v-size
-returns-then-full_v-size c = judged_no 1 (lengths c.requires.0 (λ l. c.if-full_v-size.true (l.in_full ∙ sym c.requires.1)))
+pub returns-then-add-sizes : goal.returns-then-add-sizes
+returns-then-add-sizes c =
+    let s = c.in_ok-sizes.sizes in
+    rw (← c.in_ok-sizes.ensures.0, ← c.in_ok-sizes.ensures.1) (judged_no 1 (lengths s.is_served (λ l. c.if-add-sizes.true (l.in_add ∙ sym (whole s)))))
 
-pub returns-then-pool-n : goal.returns-then-pool-n
-returns-then-pool-n c = judged_no 1 (lengths c.requires.0 (λ l. c.if-pool-n.true l.in_pool))
+pub returns-then-full_v-sizes : goal.returns-then-full_v-sizes
+returns-then-full_v-sizes c =
+    let s = c.in_ok-sizes.sizes in
+    rw (← c.in_ok-sizes.ensures.0, ← c.in_ok-sizes.ensures.1) (judged_no 1 (lengths s.is_served (λ l. c.if-full_v-sizes.true (l.in_full ∙ sym s.counts))))
+
+pub returns-then-pool-sizes : goal.returns-then-pool-sizes
+returns-then-pool-sizes c =
+    let s = c.in_ok-sizes.sizes in
+    rw (← c.in_ok-sizes.ensures.0, ← c.in_ok-sizes.ensures.1) (judged_no 1 (lengths s.is_served (λ l. c.if-pool-sizes.true l.in_pool)))
 
 -- the lengths are as they ought to be
-right : (c : goal.After-fills) → Lengths c.args.n c.args.r c.args.add.now c.args.full_v.now c.args.pool.now
-right c = record { in_add = c.if-add-rows.false ∙ size (goal.at.After-fills c).After-start_of-rows; in_full = c.if-full_v-size.false ∙ c.requires.1; in_pool = c.if-pool-n.false }
+right : (c : goal.After-fills) → Lengths c.in_ok-sizes.sizes.n c.in_ok-sizes.sizes.r c.args.add.now c.args.full_v.now c.args.pool.now
+right c =
+    let s = c.in_ok-sizes.sizes in
+    record { in_add = c.if-add-sizes.false ∙ whole s; in_full = c.if-full_v-sizes.false ∙ s.counts; in_pool = c.if-pool-sizes.false }
 
-pub returns-then-fills : goal.returns-then-fills
-returns-then-fills c = judged_no 5 (rule c.requires.0 (right (goal.at.returns-then-fills c).After-fills) (c.fills.ensures.yes c.if-fills.true) (c.add_is_right.ensures.no c.if-add_is_right.false))
+pub returns-then-not-fills : goal.returns-then-not-fills
+returns-then-not-fills c =
+    let s = c.in_ok-sizes.sizes in
+    rw (← c.in_ok-sizes.ensures.0, ← c.in_ok-sizes.ensures.1) (judged_no 3 (place s.is_served (right (goal.at.returns-then-not-fills c).After-fills) (c.fills.ensures.no c.if-not-fills.true)))
+
+pub returns-then-not-add_is_right : goal.returns-then-not-add_is_right
+returns-then-not-add_is_right c =
+    let s = c.in_ok-sizes.sizes in
+    rw (← c.in_ok-sizes.ensures.0, ← c.in_ok-sizes.ensures.1)
+    (judged_no 5 (rule s.is_served (right (goal.at.returns-then-not-add_is_right c).After-fills) (c.fills.ensures.yes c.if-not-fills.false) (c.add_is_right.ensures.no c.if-not-add_is_right.true)))
 
 pub returns : goal.returns
-returns c = judged_no 3 (place c.requires.0 (right (goal.at.returns c).After-fills) (c.fills.ensures.no c.if-fills.false))
+returns c =
+    let s = c.in_ok-sizes.sizes in
+    rw (← c.in_ok-sizes.ensures.0, ← c.in_ok-sizes.ensures.1)
+    (judged_yes (record {
+      sizes = s.is_served;
+      lengths = right (goal.at.returns c).After-fills;
+      fills = c.fills.ensures.yes c.if-not-fills.false;
+      table = c.add_is_right.ensures.yes c.if-not-add_is_right.false;
+    }))

@@ -1,6 +1,6 @@
 -- `lattice::next_letter` meets its contract. The loop's invariant: the tile is on a letter with at most `after` letters after it, and `ways` is what one of that letter passes over. Assumes nothing.
 use Rattle.std.proofs.Common.{◌≡◌, ◌+◌, ◌-◌, ◌<◌, ◌≤◌}
-use Rattle.lattice.specs.Binomial.{binomial}
+use Rattle.binomials.specs.Binomial.{binomial}
 use Rattle.lattice.proofs.next_letter.Given as goal
 
 abbrev pub invariant-loop-ways : goal.invariant-loop-ways

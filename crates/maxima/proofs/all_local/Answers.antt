@@ -22,7 +22,7 @@ module _ (c : goal.After-greatest_below-best) where
   inside = c.loop-i-test.true
 
   found : Greatest (at_ℤ c.args.d.now c.loop-i.i) (Smaller (length c.loop-i.tally) c.args.m.now c.loop-i.tally 0) c.greatest_below-best.result
-  found = rw (back _ c.greatest_below-arg-1.given) at c.greatest_below-best.ensures.0
+  found = rw (back _ c.greatest_below-arg-1.given) at c.greatest_below-best.ensures.greatest
 
 pub returns-then-best-m : goal.returns-then-best-m
 returns-then-best-m c =
@@ -33,13 +33,13 @@ pub next_tally-word-requires : goal.next_tally-word-requires
 next_tally-word-requires c =
     let inv = c.loop-i.invariant in
     let small = reached_small inv.3 (inside (goal.at.next_tally-word-requires c).After-greatest_below-best) in
-    (small.0, small.1, small.2, inv.2)
+    record { some = small.0; letters = small.1; tiles = small.2; word = inv.2 }
 
 pub loop-i-preserved : goal.loop-i-preserved
 loop-i-preserved c =
     let inv = c.loop-i.invariant in
     let e = c.next_tally-word.ensures in
-    (omega (arith, inside (goal.at.loop-i-preserved c).After-greatest_below-best), e.0.letters ∙ inv.1, e.1, reached_next inv.3 (inside (goal.at.loop-i-preserved c).After-greatest_below-best) (found (goal.at.loop-i-preserved c).After-greatest_below-best) (sym (back _ c.greatest_below-best.type_inv) ∙ ap (to_z w32) c.if-best-m.false ∙ back _ c.t17-1.given) c.greatest_below-best.ensures.1 e.0)
+    (omega (arith, inside (goal.at.loop-i-preserved c).After-greatest_below-best), e.next.letters ∙ inv.1, e.word, reached_next inv.3 (inside (goal.at.loop-i-preserved c).After-greatest_below-best) (found (goal.at.loop-i-preserved c).After-greatest_below-best) (sym (back _ c.greatest_below-best.type_inv) ∙ ap (to_z w32) c.if-best-m.false ∙ back _ c.t17-1.given) c.greatest_below-best.ensures.places e.next)
 
 pub returns : goal.returns
 returns c =

@@ -1,14 +1,13 @@
--- `maxima::greatest_below` meets its contract. The invariant: the letters from end on are done. The measure is the number of letters left. Assumes nothing.
-use mathlib.Core.Path.{sym, ap, ◌∙◌, subst}
+use Rattle.std.proofs.Common.{sym, ap, ◌∙◌, subst, arith}
 use Prim.Native.Nat.{ℕ, ◌-◌, ◌<◌}
-use native.Mathlib.Omega.{arith}
 use lib.ListN.{length, get_or}
 use mir.Syntax.{w32}
 use mir.ValLaws.{to_z-of_z}
 use Rattle.laws.specs.Greatest.{Greatest}
-use Rattle.laws.specs.Integer.{back, max_ℤ}
+use Rattle.laws.specs.Integer.{back, max_ℤ, at_ℤ}
 use Rattle.runs.specs.Runs.{word_none}
 use Rattle.maxima.specs.Places.{places_absent, greatest_absent, run_inside, run_below, run_places, run_greatest}
+use Rattle.maxima.proofs.Laws.{max_same}
 use Rattle.maxima.proofs.greatest_below.Goals.{After-next_run-run}
 use Rattle.maxima.proofs.greatest_below.Goals as goal
 
@@ -18,7 +17,7 @@ module _ (c : goal.After-next_run-run) where
   letter = c.next_run-run.result.stop - 1
 
   place : get_or c.loop-rest.at letter 0 < length c.args.m.now
-  place = omega (arith, run_below c.next_run-run.ensures c.loop-rest.invariant.0 c.loop-rest.invariant.2, c.requires.1)
+  place = omega (arith, run_below c.next_run-run.ensures c.loop-rest.invariant.0 c.loop-rest.invariant.2, c.requires.inside)
 
 pub overflow_add-at : goal.overflow_add-at
 overflow_add-at c = omega (arith, place (goal.at.overflow_add-at c).After-next_run-run)
@@ -33,10 +32,15 @@ pub loop-rest-preserved : goal.loop-rest-preserved
 loop-rest-preserved c =
     let run = c.next_run-run.ensures in
     let inv = c.loop-rest.invariant in
-    (omega (arith, run_inside run inv.0 inv.2), run.before, run_places run inv.0 inv.2, subst (Greatest _ _) (sym (back c.greater-best.result c.greater-best.type_inv ∙ c.greater-best.ensures ∙ ap (max_ℤ _) (back _ c.greater-arg-1.given))) (run_greatest run inv.0 inv.2 inv.3))
+    let entry = at_ℤ c.args.m.now (get_or c.loop-rest.at (letter (goal.at.loop-rest-preserved c).After-next_run-run) 0) in
+    let m = c.max-best in
+    let best = back m.result m.type_inv ∙ m.ensures.value ∙ max_same _ _ ∙ ap (max_ℤ _) (back entry (omega arith)) in
+    (omega (arith, run_inside run inv.0 inv.2), run.before, run_places run inv.0 inv.2, subst (Greatest _ _) (sym best) (run_greatest run inv.0 inv.2 inv.3))
 
-pub returns : goal.returns
-returns c =
+pub returns-clause-greatest : goal.returns-clause-greatest
+returns-clause-greatest c =
     let inv = c.loop-rest.invariant in
-    let none = word_none inv.0 inv.1 c.loop-rest-test.false in
-    (rw (to_z-of_z w32 c.args.own c.ranges.own) at (greatest_absent none (omega arith) inv.3), places_absent none (omega arith) inv.2)
+    rw (to_z-of_z w32 c.args.own c.ranges.own) at (greatest_absent (word_none inv.0 inv.1 c.loop-rest-test.false) (omega arith) inv.3)
+
+pub returns-clause-places : goal.returns-clause-places
+returns-clause-places c = let inv = c.loop-rest.invariant in places_absent (word_none inv.0 inv.1 c.loop-rest-test.false) (omega arith) inv.2

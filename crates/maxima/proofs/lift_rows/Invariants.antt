@@ -6,4 +6,4 @@ use Rattle.maxima.specs.Maxima.{lift_rows}
 use Rattle.maxima.proofs.lift_rows.Given as goal
 
 abbrev pub invariant-loop-idx : goal.invariant-loop-idx
-invariant-loop-idx l = (l.idx ≤ l.lo) × (length l.dst ≡ length l.initial.dst) × (l.dst ≡ lift_rows l.n l.idx l.add l.initial.dst)
+invariant-loop-idx l = (l.idx ≤ l.leaves) × (length l.dst ≡ length l.initial.dst) × (l.dst ≡ lift_rows l.n l.idx l.add l.initial.dst)

@@ -4,4 +4,4 @@ use Rattle.scatter.specs.Play.{capped_all}
 use Rattle.scatter.proofs.fill_caps.Goals as goal
 
 pub returns : goal.returns
-returns c = capped_all c.loop-t.invariant.1 c.requires.0 (omega arith)
+returns c = capped_all c.loop-t.invariant.1 c.requires.pool (omega arith)

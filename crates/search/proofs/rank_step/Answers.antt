@@ -2,7 +2,7 @@
 -- Assumes nothing.
 use Prim.Native.Nat.{◌+◌, ◌-◌, ◌≤◌}
 use native.Mathlib.Omega.{arith}
-use Rattle.lattice.specs.Binomial.{binomial, monotone}
+use Rattle.binomials.specs.Binomial.{binomial, monotone}
 use Rattle.lattice.specs.Step.{step_is}
 use Rattle.search.proofs.rank_step.Goals.{Start}
 use Rattle.search.proofs.rank_step.Goals as goal

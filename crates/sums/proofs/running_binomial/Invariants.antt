@@ -4,7 +4,7 @@ use mathlib.Core.Path.{◌≡◌}
 use Prim.Native.Nat.{◌+◌, ◌-◌, ◌≤◌}
 use lib.IntN.{pos}
 use Rattle.whole.specs.Whole.{whole}
-use Rattle.lattice.specs.Binomial.{binomial}
+use Rattle.binomials.specs.Binomial.{binomial}
 use Rattle.sums.proofs.running_binomial.Given as goal
 
 abbrev pub invariant-loop-c : goal.invariant-loop-c

@@ -1,53 +1,64 @@
--- `table_sums::apportion_sized` meets its contract. Assumes nothing.
-use mathlib.Core.Path.{◌≡◌, sym, ap, ◌∙◌}
+-- The tests go in the order of the numbers. Assumes nothing.
+use Rattle.std.proofs.Common.{◌≡◌, ℕ, ◌*◌, ◌^◌, ◌≤◌, sym, ap, refl, ◌∙◌, arith}
 use mathlib.Core.Bool.{false≢true}
-use Prim.Native.Nat.{ℕ}
-use native.Mathlib.Omega.{arith}
+use Rattle.binomials.specs.Binomial.{binomial}
 use Rattle.lattice.specs.Tally.{total}
 use Rattle.lattice.specs.Served.{facts}
-use Rattle.sums.specs.Limit.{limit_there, limit_back}
-use Rattle.sums.specs.Weight.{weight_of}
+use Rattle.sums.specs.Limit.{limit_beyond}
+use Rattle.sums.specs.Weight.{Clear}
 use Rattle.table_sums.specs.Table.{entries, limits}
 use Rattle.table_sums.specs.Calls.{refused, dealt_apportioned, beyond_least}
-use Rattle.table_sums.proofs.apportion_sized.Goals.{After-weight-w}
+use Rattle.table_sums.proofs.apportion_sized.Goals.{Else-not-all_clear-2, In-Some}
 use Rattle.table_sums.proofs.apportion_sized.Goals as goal
 
 pub tiles_in-requires : goal.tiles_in-requires
-tiles_in-requires c = (facts _ _ c.requires.0).letters
+tiles_in-requires c = (facts _ _ c.requires.sizes).letters
 
-pub weight-w-requires : goal.weight-w-requires
-weight-w-requires c = (facts _ _ c.requires.0).tiles
+pub weight-requires : goal.weight-requires
+weight-requires c = (facts _ _ c.requires.sizes).tiles
 
--- the weight is that of the pool's tiles
-weight_is : (c : goal.After-weight-w) → c.weight-w.result ≡ weight_of (total c.args.unseen.now) c.args.r
-weight_is c = c.weight-w.ensures ∙ ap (λ (k : ℕ). weight_of k c.args.r) c.tiles_in.ensures
+-- the sums are clear
+clears : (c : goal.Else-not-all_clear-2) → Clear c.args.num.now × Clear c.args.den.now
+clears c = (c.if-not-all_clear.ensures.0 refl, c.if-not-all_clear-2.ensures.0 refl)
 
-pub apportion_dealt-requires : goal.apportion_dealt-requires
-apportion_dealt-requires c = (
-  c.binomials-table.ensures,
-  record {
-    sizes = c.requires.0;
-    lengths = c.requires.1;
-    nums = c.all_clear.ensures.0 c.if-all_clear.true;
-    dens = c.all_clear-then-all_clear.ensures.0 c.if-all_clear-2.true;
-    weight = weight_is (goal.at.apportion_dealt-requires c).After-weight-w;
-    small = limit_there _ _ (omega arith) (weight_is (goal.at.apportion_dealt-requires c).After-weight-w) (c.within_limit.ensures.0 c.if-within_limit.true);
-  },
-)
+-- the number of hands
+hands_are : (c : goal.In-Some) → c.in-Some.hands ≡ binomial (total c.args.unseen.now) c.args.r
+hands_are c = rw c.tiles_in.ensures at c.in-Some.ensures.1
 
-pub returns-then-within_limit : goal.returns-then-within_limit
-returns-then-within_limit c =
-    dealt_apportioned c.requires.0 c.requires.1 (c.all_clear.ensures.0 c.if-all_clear.true) (c.all_clear-then-all_clear.ensures.0 c.if-all_clear-2.true) c.apportion_dealt.ensures
-
-pub returns-then-all_clear-2 : goal.returns-then-all_clear-2
-returns-then-all_clear-2 c =
+pub returns-in_default : goal.returns-in_default
+returns-in_default c =
     refused
-    (limits c.requires.0 c.requires.1 (c.all_clear.ensures.0 c.if-all_clear.true, c.all_clear-then-all_clear.ensures.0 c.if-all_clear-2.true)
-    (beyond_least (λ h. false≢true (sym c.if-within_limit.false ∙ c.within_limit.ensures.1 (limit_back _ _ (omega arith) (weight_is (goal.at.returns-then-all_clear-2 c).After-weight-w) h)))))
+    (limits c.requires.sizes c.requires.lengths (clears (goal.at.returns-in_default c).Else-not-all_clear-2)
+    (beyond_least (limit_beyond (omega arith) (rw c.tiles_in.ensures at c.in_default.ensures))))
     (λ e. omega arith)
 
-pub returns-else-all_clear-2 : goal.returns-else-all_clear-2
-returns-else-all_clear-2 c = refused (entries c.requires.0 c.requires.1 (λ h. c.all_clear-then-all_clear.ensures.1 c.if-all_clear-2.false h.1)) (λ e. omega arith)
+pub apportion_dealt-requires : goal.apportion_dealt-requires
+apportion_dealt-requires c =
+    let clear = clears (goal.at.apportion_dealt-requires c).Else-not-all_clear-2 in
+    let hands = hands_are (goal.at.apportion_dealt-requires c).In-Some in
+    record {
+      sizes = c.requires.sizes;
+      lengths = c.requires.lengths;
+      nums = clear.0;
+      dens = clear.1;
+      weight = hands;
+      small = rw (← hands) (c.if-not-within_limit.ensures.0 refl);
+    }
 
-pub returns-else-all_clear : goal.returns-else-all_clear
-returns-else-all_clear c = refused (entries c.requires.0 c.requires.1 (λ h. c.all_clear.ensures.1 c.if-all_clear.false h.0)) (λ e. omega arith)
+pub returns : goal.returns
+returns c =
+    let clear = clears (goal.at.returns c).Else-not-all_clear-2 in
+    dealt_apportioned c.requires.sizes c.requires.lengths clear.0 clear.1 c.apportion_dealt.ensures
+
+pub returns-then-not-within_limit : goal.returns-then-not-within_limit
+returns-then-not-within_limit c =
+    refused
+    (limits c.requires.sizes c.requires.lengths (clears (goal.at.returns-then-not-within_limit c).Else-not-all_clear-2)
+    (beyond_least (λ h. false≢true (c.if-not-within_limit.ensures.1 (rw (hands_are (goal.at.returns-then-not-within_limit c).In-Some) h)))))
+    (λ e. omega arith)
+
+pub returns-then-not-all_clear-2 : goal.returns-then-not-all_clear-2
+returns-then-not-all_clear-2 c = refused (entries c.requires.sizes c.requires.lengths (λ h. false≢true (c.if-not-all_clear-2.ensures.1 h.1))) (λ e. omega arith)
+
+pub returns-then-not-all_clear : goal.returns-then-not-all_clear
+returns-then-not-all_clear c = refused (entries c.requires.sizes c.requires.lengths (λ h. false≢true (c.if-not-all_clear.ensures.1 h.0))) (λ e. omega arith)

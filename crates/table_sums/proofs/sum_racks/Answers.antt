@@ -5,21 +5,21 @@ use Rattle.table_sums.proofs.Calls.{sums_filled}
 use Rattle.table_sums.proofs.sum_racks.Goals as goal
 
 pub fill_values-requires : goal.fill_values-requires
-fill_values-requires c = values_fit c.requires.1
+fill_values-requires c = values_fit c.requires
 
 pub fold_letters-requires : goal.fold_letters-requires
 fold_letters-requires c =
-    let f = fold_fits c.requires.1 c.fill_values.ensures.long in
-    (c.requires.0, f.0, f.1)
+    let f = fold_fits c.requires c.fill_values.ensures.long in
+    record { sizes = f.0; size = f.1 }
 
 pub fold_letters-requires-2 : goal.fold_letters-requires-2
 fold_letters-requires-2 c =
-    let l = c.requires.1.lengths in
-    let f = fold_fits c.requires.1 (l.dens ∙ sym l.nums) in
-    (c.requires.0, f.0, f.1)
+    let l = c.requires.lengths in
+    let f = fold_fits c.requires (l.dens ∙ sym l.nums) in
+    record { sizes = f.0; size = f.1 }
 
 pub returns : goal.returns
 returns c =
     let a = c.fold_letters.ensures in
     let b = c.fold_letters-2.ensures in
-    sums_filled c.requires.1 c.fill_values.ensures a.0 a.1 b.0 b.1
+    sums_filled c.requires c.fill_values.ensures a.size a.sums b.size b.sums

@@ -6,7 +6,7 @@ use lib.Ieee.{of_bits, neg, to_signed}
 use mir.ValLaws.{to_z-of_z}
 use Rattle.whole.specs.Whole.{Small}
 use Rattle.whole.proofs.Tests.{Within, within, of_true, small_in_float, whole_number, whole_low, whole_high, whole_of_bits, bits_of_whole}
-use Rattle.whole.proofs.is_whole.Goals.{After-truncating_f64_to_i64-n, Then-x-2}
+use Rattle.whole.proofs.is_whole.Goals.{After-truncating_f64_to_i64-n, Then-x-2, else-x-via-then-x+else-x-2, else-x-via-else-x}
 use Rattle.whole.proofs.is_whole.Goals as goal
 
 between : (c : goal.Then-x-2) → Within c.args.x
@@ -35,10 +35,12 @@ returns-then-x-2 c =
     let n = to_z w64 (of_z w64 c.truncating_f64_to_i64-n.result) in
     (whole_of_bits x n (of_true c.well_formed.0.1) (read_back (goal.at.returns-then-x-2 c).After-truncating_f64_to_i64-n) (between (goal.at.returns-then-x-2 c).Then-x-2), bits_of_whole x n (read_back (goal.at.returns-then-x-2 c).After-truncating_f64_to_i64-n))
 
-pub returns-else-x-2 : goal.returns-else-x-2
+pub returns : goal.returns
 unfolding of_bits neg
-returns-else-x-2 c = (λ e. absurd (false≢true e), λ w. sym c.if-x-2.false ∙ whole_high c.args.x w)
-
-pub returns-else-x : goal.returns-else-x
-unfolding of_bits neg
-returns-else-x c = (λ e. absurd (false≢true e), λ w. sym c.if-x.false ∙ whole_low c.args.x w)
+returns c = (
+  λ e. absurd (false≢true e),
+  λ w. elim c.else-x.branch [
+    | else-x-via-then-x+else-x-2 v ↦ sym v.if-x-2.false ∙ whole_high c.args.x w
+    | else-x-via-else-x v ↦ sym v.if-x.false ∙ whole_low c.args.x w
+  ],
+)

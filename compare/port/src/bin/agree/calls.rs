@@ -161,7 +161,7 @@ impl Agree {
         let call = "naive_best_equity";
         match want {
             Ok((value, rest, word)) => {
-                // the kind is the document's
+                // the kind is that of docs/SCOPE.md
                 let kind = if word { 1 } else { 2 };
                 let play = |value, rest| (Play { number: 0, kind, value }, Some(rest));
                 let (best, letters) = calls::naive(both.unwrap().0, sheet, leave, tally);

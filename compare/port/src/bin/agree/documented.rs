@@ -1,5 +1,5 @@
-// Document 01's worked examples, and the inputs of docs/DIFFERENCES.md where the original departs from the document: what the port gives is
-// held against the document's own words.
+// The worked examples of docs/SCOPE.md, and the inputs of docs/DIFFERENCES.md where the original departs from that page: what the port gives is
+// held against the page's own words.
 use crate::Agree;
 use oracle::inputs::HEAVY;
 use oracle::model::{Mode, NONE, UNPLAYABLE};

@@ -1,4 +1,4 @@
-// Holds the port against the original, in the original's domain, and against the plain model of document 01 elsewhere: random and damaged
+// Holds the port against the original, in the original's domain, and against the plain model of docs/SCOPE.md elsewhere: random and damaged
 // inputs, answers and numbers, every entry written and every entry left alone.
 //   agree [SEED [COUNT]]        COUNT rank calls of each kind (1,000,000 where not given), and other calls in proportion
 mod calls;

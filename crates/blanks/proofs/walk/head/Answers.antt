@@ -5,8 +5,8 @@ use Rattle.blanks.proofs.walk.head.Goals as goal
 
 pub overflow_sub-result : goal.overflow_sub-result
 overflow_sub-result c =
-    omega (arith, c.constant.ensures, head_is c.args.size c.args.k c.requires.0 c.requires.3, c.requires.4)
+    omega (arith, c.choose.ensures, head_is c.args.size c.args.k c.requires.some c.requires.blanks, c.requires.top)
 
 pub returns : goal.returns
 returns c =
-    omega (arith, c.constant.ensures, head_is c.args.size c.args.k c.requires.0 c.requires.3, c.requires.4)
+    omega (arith, c.choose.ensures, head_is c.args.size c.args.k c.requires.some c.requires.blanks, c.requires.top)

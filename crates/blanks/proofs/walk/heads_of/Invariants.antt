@@ -9,6 +9,3 @@ use Rattle.blanks.proofs.walk.heads_of.Given as goal
 abbrev pub invariant-loop-k : goal.invariant-loop-k
 invariant-loop-k l =
     (l.k ≤ l.most + 1) × (length l.heads ≡ 16) × ((j : ℕ) → j < l.k → get_or l.heads j 0 ≡ start l.n l.size + step (l.n - 1) l.size j)
-
-abbrev pub decreases-loop-k : goal.decreases-loop-k
-decreases-loop-k l = l.most + 1 - l.k

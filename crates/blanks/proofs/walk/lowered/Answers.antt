@@ -12,10 +12,10 @@ loop-i-init c = (omega arith, sym (less_zero _ _ _))
 
 pub overflow_sub-value : goal.overflow_sub-value
 overflow_sub-value c =
-    less_asked c.args.v _ _ _ c.requires.1 (omega arith) (rw (to_z-of_z w32 c.args.v c.ranges.v) at c.loop-i.invariant.1)
+    less_asked c.args.v _ _ _ c.requires.small (omega arith) (rw (to_z-of_z w32 c.args.v c.ranges.v) at c.loop-i.invariant.1)
 
 pub loop-i-preserved : goal.loop-i-preserved
 loop-i-preserved c = (
   omega arith,
-  rw (to_z-of_z w32 c.args.v c.ranges.v) (less_more c.args.v _ _ _ c.requires.1 (omega arith) (rw (to_z-of_z w32 c.args.v c.ranges.v) at c.loop-i.invariant.1)),
+  rw (to_z-of_z w32 c.args.v c.ranges.v) (less_more c.args.v _ _ _ c.requires.small (omega arith) (rw (to_z-of_z w32 c.args.v c.ranges.v) at c.loop-i.invariant.1)),
 )

@@ -1,9 +1,4 @@
--- `blanks::walk::raise_all` meets its contract: the tally of all tiles, its word, its heads, its tails, and the walk over them. Assumes nothing.
-use mathlib.Core.Path.{◌≡◌, sym, ap, ◌∙◌}
-use Prim.Native.Nat.{suc}
-use native.Mathlib.Nat.{zero-add}
-use native.Mathlib.Omega.{arith}
-use lib.ListN.{length}
+use Rattle.std.proofs.Common.{◌≡◌, suc, length, sym, ap, ◌∙◌, arith, zero-add}
 use lib.Seq.{take-length}
 use mir.Syntax.{w32}
 use mir.ValLaws.{to_z-of_z}
@@ -18,11 +13,11 @@ long c = omega arith
 
 pub turns-requires : goal.turns-requires
 turns-requires c =
-    let r = first_ready c.requires.0 (long (goal.at.turns-requires c).After-tally_letters-word) c.tally_letters-word.ensures.0 c.requires.1 in
-    let e = c.tally_letters-word.ensures.1 ∙ ap present (sym (take-length _)) in (
-      rw (to_z-of_z w32 c.args.score c.ranges.score) r,
-      e,
-      rw zero-add c.heads_of-heads.ensures,
-      rw (zero-add, ← c.spare.ensures) c.tails_of-free.ensures,
-      λ o. letter_there r c.requires.4 (word_none r.top e o),
-    )
+    let r = first_ready c.requires.board (long (goal.at.turns-requires c).After-tally_letters-word) c.tally_letters-word.ensures.tally c.requires.score in
+    let e = c.tally_letters-word.ensures.word ∙ ap present (sym (take-length _)) in
+    record {
+      ready = rw (to_z-of_z w32 c.args.score c.ranges.score) r;
+      word = e;
+      some = λ o. letter_there r c.requires.some (word_none r.top e o);
+      blanks = zero-add _;
+    }

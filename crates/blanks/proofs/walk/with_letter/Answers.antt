@@ -11,7 +11,7 @@ use Rattle.blanks.proofs.walk.with_letter.Goals as goal
 bit : (c : goal.Then-count-eq0) → ((1 * 2 ^ c.args.p) % 2 ^ 64 ≡ 2 ^ c.args.p) × ((1 - mark c.args.count) * 2 ^ c.args.p ≡ 2 ^ c.args.p)
 bit c =
     let p = c.args.p in
-    let h = c.requires.0 in
+    let h = c.requires.bit in
     (omega (arith, shl_exact {a = 1} 1 p 64 (omega arith) (omega arith)), omega (arith, ap (λ (m : ℕ). (1 - m) * 2 ^ p) (mark_none c.if-count-eq0.true)))
 
 pub overflow_add-result : goal.overflow_add-result

@@ -26,7 +26,7 @@ bounds-pool-t m c = letter_there c.requires.1 c.args.w c.if-remaining-eq0.false 
 
 pub overflow_sub-rest : goal.overflow_sub-rest
 overflow_sub-rest m c =
-    omega (arith, left_is c.requires.1 c.args.w c.if-remaining-eq0.false c.if-left-remaining.false c.held-u.ensures.0)
+    omega (arith, left_is c.requires.1 c.args.w c.if-remaining-eq0.false c.if-left-remaining.false c.held-u.ensures.same)
 
 -- the letter is there
 there : (m : ℕ) → (c : goal.After-smaller-high m) → c.args.t < length c.args.pool.now
@@ -35,12 +35,12 @@ there m c = letter_there c.requires.1 c.args.w c.if-remaining-eq0.false c.if-lef
 pub aggregate-sums-requires : goal.aggregate-sums-requires
 unfolding climb
 aggregate-sums-requires m c =
-    (omega (arith, c.decreases, there m c), (c.requires.0, walk_next c.requires.1 c.args.w c.if-remaining-eq0.false c.if-left-remaining.false c.held-u.ensures.0 0 (add-one c.args.t) refl (omega arith) (omega arith) refl))
+    (omega (arith, c.decreases, there m c), (c.requires.0, walk_next c.requires.1 c.args.w c.if-remaining-eq0.false c.if-left-remaining.false c.held-u.ensures.same 0 (add-one c.args.t) refl (omega arith) (omega arith) refl))
 
 pub loop-j-init : goal.loop-j-init
 unfolding climb running
 loop-j-init m c =
-    (omega arith, one_literal, refl, turn_first c.requires.1 c.args.w c.if-remaining-eq0.false c.if-left-remaining.false c.held-u.ensures.0 (add-one c.args.t) c.aggregate-sums.ensures)
+    (omega arith, one_literal, refl, turn_first c.requires.1 c.args.w c.if-remaining-eq0.false c.if-left-remaining.false c.held-u.ensures.same (add-one c.args.t) c.aggregate-sums.ensures)
 
 -- a turn takes no more than is to come
 few : (m : ℕ) → (c : goal.In-loop-j m) → c.loop-j.j < c.args.remaining
@@ -63,7 +63,7 @@ pub aggregate-sums-requires-in-loop-j : goal.aggregate-sums-requires-in-loop-j
 aggregate-sums-requires-in-loop-j m c =
     let h = few m (goal.at.aggregate-sums-requires-in-loop-j m c).In-loop-j in (
       omega (arith, c.decreases, there m (goal.at.aggregate-sums-requires-in-loop-j m c).After-smaller-high),
-      (c.requires.0, walk_next c.requires.1 c.args.w c.if-remaining-eq0.false c.if-left-remaining.false c.held-u.ensures.0 (suc c.loop-j.j) (add-one c.args.t) refl h (omega arith) (rank_next m c)),
+      (c.requires.0, walk_next c.requires.1 c.args.w c.if-remaining-eq0.false c.if-left-remaining.false c.held-u.ensures.same (suc c.loop-j.j) (add-one c.args.t) refl h (omega arith) (rank_next m c)),
     )
 
 pub loop-j-preserved : goal.loop-j-preserved
@@ -79,10 +79,10 @@ loop-j-preserved m c =
       omega arith,
       b,
       r,
-      turn_next c.requires.1 c.args.w c.if-remaining-eq0.false c.if-left-remaining.false c.held-u.ensures.0 l.j (add-one c.args.t) (omega arith) b r l.invariant.3 c.aggregate-sums-in-loop-j.ensures,
+      turn_next c.requires.1 c.args.w c.if-remaining-eq0.false c.if-left-remaining.false c.held-u.ensures.same l.j (add-one c.args.t) (omega arith) b r l.invariant.3 c.aggregate-sums-in-loop-j.ensures,
     )
 
 pub returns : goal.returns
 returns m c =
     let l = c.loop-j in
-    turns_done c.requires.1 c.args.w c.if-remaining-eq0.false c.if-left-remaining.false c.held-u.ensures.0 (omega (arith, c.smaller-high.ensures, l.invariant.0)) l.invariant.3
+    turns_done c.requires.1 c.args.w c.if-remaining-eq0.false c.if-left-remaining.false c.held-u.ensures.same (omega (arith, c.smaller-high.ensures, l.invariant.0)) l.invariant.3

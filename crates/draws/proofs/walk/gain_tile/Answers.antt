@@ -10,7 +10,7 @@ use Rattle.draws.proofs.walk.gain_tile.Goals as goal
 
 pub returns-then-count-eq0 : goal.returns-then-count-eq0
 returns-then-count-eq0 c =
-    tile_none (length c.args.pool.now) c.args.add.now c.args.u c.args.w c.args.ridx _ (sym c.held-count.ensures.0 ∙ c.if-count-eq0.true)
+    tile_none (length c.args.pool.now) c.args.add.now c.args.u c.args.w c.args.ridx _ (sym c.held-count.ensures.same ∙ c.if-count-eq0.true)
 
 pub raised-idx-requires : goal.raised-idx-requires
 raised-idx-requires c =
@@ -23,5 +23,5 @@ gain-requires c =
 pub returns : goal.returns
 returns c =
     let v = c.held-count in
-    subst (λ (u : ℕ). Gathered c.args.full_v.now (met_tile (length c.args.pool.now) c.args.add.now c.args.u u c.args.w c.args.ridx) (totals c.args.num c.args.den c.args.most) c.gain.result) v.ensures.0
+    subst (λ (u : ℕ). Gathered c.args.full_v.now (met_tile (length c.args.pool.now) c.args.add.now c.args.u u c.args.w c.args.ridx) (totals c.args.num c.args.den c.args.most) c.gain.result) v.ensures.same
     (tile_some (length c.args.pool.now) c.args.add.now c.args.u c.args.w c.args.ridx v.result c.if-count-eq0.false one_literal c.next_binomial.ensures c.raised-idx.ensures c.gain.ensures)

@@ -1,56 +1,72 @@
--- `fused::bests::best_racks` meets its contract. The loop's invariant: the racks that extend the leaves passed are done, and the walk has reached the next leave. Assumes nothing.
-use mathlib.Core.Path.{refl, sym, ◌∙◌, subst}
-use Prim.Native.Nat.{ℕ, ◌<◌}
-use native.Mathlib.Omega.{arith}
-use lib.ListN.{length}
+-- A walk over the leaves of one tile less than a full rack. Assumes nothing.
+use Rattle.std.proofs.Common.{ℕ, ◌<◌, length, refl, sym, ◌∙◌, subst, arith}
 use Rattle.lattice.specs.Tally.{start}
-use Rattle.lattice.specs.Served.{facts}
+use Rattle.lattice.specs.Served.{Served, facts}
+use Rattle.extensions.specs.Racks.{Leave}
 use Rattle.extensions.specs.Onward.{reached_first, reached_walks, reached_next, some_leave}
 use Rattle.search.specs.Racks.{Filled, filled_none, filled_leave, leave_ready, leave_room}
 use Rattle.fused.specs.Bests.{drawn}
 use Rattle.fused.specs.Splits.{Splitting, leave_low}
+use Rattle.fused.proofs.bests.best_racks.Goals.{Start}
 use Rattle.fused.proofs.bests.best_racks.Goals as goal
 
-pub overflow_sub-r : goal.overflow_sub-r
-overflow_sub-r c =
-    omega (arith, (facts (length c.args.tally.now) c.args.r c.requires.1.ready.sizes).some_tile)
+sizes : (c : goal.Start) → Served c.args.sizes.n c.args.sizes.r
+sizes c = facts c.args.sizes.n c.args.sizes.r c.args.sizes.is_served
+
+pub overflow_sub-sizes : goal.overflow_sub-sizes
+overflow_sub-sizes c = (sizes (goal.at.overflow_sub-sizes c).Start).some_tile
 
 pub size_start-from-requires : goal.size_start-from-requires
 size_start-from-requires c =
-    let f = facts (length c.args.tally.now) c.args.r c.requires.1.ready.sizes in
-    (c.requires.0, f.letters, omega (arith, f.tiles))
+    let f = sizes (goal.at.size_start-from-requires c).Start in
+    record { letters = f.letters; tiles = omega (arith, f.tiles) }
 
 pub extend_at-e-requires : goal.extend_at-e-requires
 extend_at-e-requires c =
+    let s = c.args.sizes in
     let from = c.size_start-from.ensures in
-    let e = c.requires.1.ready.sizes in
-    (e, omega (arith, from), omega (arith, from, some_leave (length c.args.tally.now) c.args.r e))
+    rw c.requires.tally
+    (record { served = s.is_served; from = omega (arith, from); below = omega (arith, from, some_leave s.n s.r s.is_served) })
 
-pub loop-rank-init : goal.loop-rank-init
-loop-rank-init c =
+pub loop-init : goal.loop-init
+loop-init c =
     let a = c.args in
-    let n = length a.tally.now in
+    let s = a.sizes in
     let from = c.size_start-from.ensures in
-    (omega (arith, from, c.requires.1.low, some_leave n a.r c.requires.1.ready.sizes), refl, subst (λ (k : ℕ). Filled a.sheet.now a.leave.now (drawn a.lo a.ways.now) n a.r k a.best.now a.best.now) (sym from) (filled_none _), reached_first c.extend_at-e.ensures)
+    let first = subst (λ (k : ℕ). Leave k s.r c.size_start-from.result c.extend_at-e.new.tally c.extend_at-e.result.stop c.extend_at-e.result.first) c.requires.tally c.extend_at-e.ensures.leave in
+    record {
+      low = omega (arith, from, s.starts, some_leave s.n s.r s.is_served);
+      size = refl;
+      filled = subst (λ (k : ℕ). Filled a.board.now.sheet.now a.board.now.leave.now (drawn s.leaves a.ways.now) s.n s.r k a.best.now a.best.now) (sym from) (filled_none _);
+      reached = reached_first (first, c.extend_at-e.ensures.word);
+    }
 
 pub best_extended-requires : goal.best_extended-requires
 best_extended-requires c =
     let a = c.args in
-    let l = c.loop-rank.invariant in
-    let d = subst (λ (k : ℕ). Splitting (length a.tally.now) a.r a.lo a.sheet.now a.leave.now (length a.ways.now) k) (sym l.1) c.requires.1 in
-    let at = l.3.here (omega (arith, c.loop-rank-test.true, c.requires.1.low)) in
-    (c.requires.0, leave_ready d.ready at, leave_low d at, leave_room d.ready at, d.full)
+    let s = a.sizes in
+    let l = c.loop.invariant in
+    let d = subst (λ (k : ℕ). Splitting s.n s.r s.leaves a.board.now.sheet.now a.board.now.leave.now (length a.ways.now) k) (sym l.size) c.requires.tables in
+    let at = l.reached.here (omega (arith, c.loop-test.true, s.starts)) in
+    record { extending = leave_ready d.ready at; full_racks = leave_low d at; room = leave_room d.ready at; ways = d.full }
 
 pub next_leave-e-requires : goal.next_leave-e-requires
 next_leave-e-requires c =
-    let l = c.loop-rank.invariant in
-    reached_walks l.3 (omega (arith, c.loop-rank-test.true, c.requires.1.low)) c.requires.1.ready.sizes
+    let s = c.args.sizes in
+    let w = reached_walks c.loop.invariant.reached (omega (arith, c.loop-test.true, s.starts)) s.is_served in
+    record { walking = w.0; word = w.1 }
 
-pub loop-rank-preserved : goal.loop-rank-preserved
-loop-rank-preserved c =
-    let l = c.loop-rank.invariant in
-    let test = c.loop-rank-test.true in
-    let taken : c.loop-rank.rank < start (length c.args.tally.now) c.args.r = omega (arith, test, c.requires.1.low) in
+pub loop-preserved : goal.loop-preserved
+loop-preserved c =
+    let s = c.args.sizes in
+    let l = c.loop.invariant in
+    let test = c.loop-test.true in
+    let taken : c.loop.counter < start s.n s.r = omega (arith, test, s.starts) in
     let v = c.best_extended.ensures in
-    let some = (facts (length c.args.tally.now) c.args.r c.requires.1.ready.sizes).some_letter in
-    (omega (arith, test), v.size ∙ l.1, filled_leave some l.2 (l.3.here taken) v, reached_next l.3 taken c.next_leave-e.ensures)
+    let next = c.next_leave-e.ensures in
+    record {
+      low = omega (arith, test);
+      size = v.size ∙ l.size;
+      filled = filled_leave (sizes (goal.at.loop-preserved c).Start).some_letter l.filled (l.reached.here taken) v;
+      reached = reached_next l.reached taken (next.onward, next.word);
+    }

@@ -1,12 +1,15 @@
--- `fused::bests::best_racks` meets its contract. The loop's invariant: the racks that extend the leaves passed are done, and the walk has reached the next leave. Assumes nothing.
-use mathlib.Core.Path.{◌≡◌}
-use Prim.Native.Nat.{◌≤◌}
-use lib.ListN.{length}
+-- The racks that extend the leaves passed are done, and the walk has reached the next leave. Assumes nothing.
+use Rattle.std.proofs.Common.{◌≡◌, ◌≤◌, length}
 use Rattle.extensions.specs.Onward.{Reached}
 use Rattle.search.specs.Racks.{Filled}
 use Rattle.fused.specs.Bests.{drawn}
 use Rattle.fused.proofs.bests.best_racks.Given as goal
 
-abbrev pub invariant-loop-rank : goal.invariant-loop-rank
-invariant-loop-rank l =
-    (l.rank ≤ l.lo) × (length l.best ≡ length l.initial.best) × Filled l.sheet l.leave (drawn l.lo l.ways) l.n l.r l.rank l.initial.best l.best × Reached l.n l.r l.rank l.tally l.e.word l.e.stop l.e.first
+abbrev pub invariant-loop : goal.invariant-loop
+invariant-loop l =
+    record {
+      low : l.counter ≤ l.sizes.leaves;
+      size : length l.best ≡ length l.initial.best;
+      filled : Filled l.board.sheet.now l.board.leave.now (drawn l.sizes.leaves l.ways) l.sizes.n l.sizes.r l.counter l.initial.best l.best;
+      reached : Reached l.sizes.n l.sizes.r l.counter l.tally l.e.word l.e.stop l.e.first;
+    }

@@ -1,42 +1,55 @@
--- `fused::fuse::fuse` meets its contract: the sums are folded or spread over the same ways and bests. Assumes nothing.
-use mathlib.Core.Path.{◌∙◌}
-use Rattle.fused.specs.Fuse.{ranks_rise, ranks_same, pool_fits, deals_after, fold_sized, fold_after, spreading, spread_after}
+-- The sums are folded or spread over the same ways and bests. Assumes nothing.
+use Rattle.std.proofs.Common.{refl, sym, ◌∙◌, length-take-le}
+use Rattle.lattice.specs.Served.{facts}
+use Rattle.fused.specs.Fuse.{pool_fits, deals_after, fold_sized, fold_after, spreading, spread_after}
+use Rattle.fused.proofs.Judges.{whole}
 use Rattle.fused.proofs.fuse.fuse.Goals as goal
 
 pub deal_racks-requires : goal.deal_racks-requires
-deal_racks-requires c =
-    let p = c.requires in
-    (p.0, pool_fits p.3)
+deal_racks-requires c = pool_fits c.requires
 
 pub fill_bests-requires : goal.fill_bests-requires
 fill_bests-requires c =
-    let p = c.requires in
-    (p.0, p.1, p.2, p.3.lengths.in_maxsheet, p.3.sound, deals_after p.3 c.deal_racks.ensures)
+    record { room = c.requires.lengths.in_maxsheet; sound = c.requires.sound; ways = deals_after c.requires c.deal_racks.ensures }
 
 pub fold_zeta-requires : goal.fold_zeta-requires
 fold_zeta-requires c =
     let p = c.requires in
-    let b = c.fill_bests.ensures.0 in
-    (ranks_rise p.3.sound p.1 (b.long ∙ p.3.lengths.in_maxsheet), ranks_same p.3.sound p.1, p.3.sound.lengths.in_pool, fold_sized p.3 p.1 (deals_after p.3 c.deal_racks.ensures) b)
+    let s = c.args.ranks.now.sizes in
+    let b = c.fill_bests.ensures in
+    record {
+      inside = b.long ∙ p.lengths.in_maxsheet ∙ sym (whole s);
+      letters = p.sound.lengths.in_pool;
+      sized = fold_sized p s.starts (deals_after p c.deal_racks.ensures) b;
+    }
+
+pub slice_bounds-tally-end : goal.slice_bounds-tally-end
+slice_bounds-tally-end c = let s = c.args.ranks.now.sizes in (facts s.n s.r s.is_served).letters
+
+pub slice_bounds-spread_racks-end : goal.slice_bounds-spread_racks-end
+slice_bounds-spread_racks-end c = let s = c.args.ranks.now.sizes in sym (length-take-le _ _ (facts s.n s.r s.is_served).letters)
 
 pub spread_racks-requires : goal.spread_racks-requires
 spread_racks-requires c =
     let p = c.requires in
+    let s = c.args.ranks.now.sizes in
+    record {
+      tally = length-take-le _ _ (facts s.n s.r s.is_served).letters;
+      tables = spreading p s.starts (deals_after p c.deal_racks.ensures) c.fill_bests.ensures refl;
+    }
+
+pub returns-then-board : goal.returns-then-board
+returns-then-board c =
+    let p = c.requires in
+    let w = deals_after p c.deal_racks.ensures in
     let b = c.fill_bests.ensures in
-    (p.0, spreading p.3 p.1 (deals_after p.3 c.deal_racks.ensures) b.0 b.1)
-
-pub returns-then-mode : goal.returns-then-mode
-returns-then-mode c =
-    let p = c.requires in
-    let w = deals_after p.3 c.deal_racks.ensures in
-    let b = c.fill_bests.ensures.0 in
     let v = c.fold_zeta.ensures in
-    record { sums = fold_after p.3 p.1 w b v.0 v.1; drawn = w; bests = b }
+    record { sums = fold_after p c.args.ranks.now.sizes.starts w b v.num v.den; drawn = w; bests = b }
 
-pub returns-else-mode : goal.returns-else-mode
-returns-else-mode c =
+pub returns-else-board : goal.returns-else-board
+returns-else-board c =
     let p = c.requires in
-    let w = deals_after p.3 c.deal_racks.ensures in
+    let w = deals_after p c.deal_racks.ensures in
     let b = c.fill_bests.ensures in
     let v = c.spread_racks.ensures in
-    record { sums = spread_after p.3 p.1 w b.0 b.1 v.0 v.1; drawn = w; bests = b.0 }
+    record { sums = spread_after p c.args.ranks.now.sizes.starts w b refl v.num v.den; drawn = w; bests = b }

@@ -1,41 +1,26 @@
--- `fused::plain::spread_at` meets its contract. Assumes nothing.
-use mathlib.Core.Path.{sym}
-use native.Mathlib.Omega.{arith}
-use lib.Seq.{length-take-le}
+-- There are as many numbers as racks that extend the leave, and one more. Assumes nothing.
+use Rattle.std.proofs.Common.{◌+◌, ◌-◌, ◌≤◌, length, sym, length-take-le, arith}
 use Rattle.fused.specs.Spreads.{leave_stop}
+use Rattle.fused.proofs.plain.spread_at.Goals.{Start}
 use Rattle.fused.proofs.plain.spread_at.Goals as goal
 
-pub overflow_sub-k : goal.overflow_sub-k
-overflow_sub-k c =
-    let p = c.requires in
-    (leave_stop p.1.sizes p.2).1
-
-pub slice_bounds-spread_leave-end : goal.slice_bounds-spread_leave-end
-slice_bounds-spread_leave-end c =
-    let p = c.requires in
-    let h = leave_stop p.1.sizes p.2 in
-    omega (arith, h.0, h.1, h.2, p.3)
+few : (c : goal.Start) → length c.args.tally.now - c.args.e.stop + 2 ≤ 65
+few c =
+    let h = leave_stop c.requires.tables.sizes c.requires.leave in
+    omega (arith, h.0, h.1, h.2)
 
 pub slice_bounds-spread_leave-end-2 : goal.slice_bounds-spread_leave-end-2
 slice_bounds-spread_leave-end-2 c =
-    let p = c.requires in
-    let h = leave_stop p.1.sizes p.2 in
-    sym (length-take-le _ _ (omega (arith, h.0, h.1, h.2, p.3)))
-
-pub slice_bounds-spread_leave-end-3 : goal.slice_bounds-spread_leave-end-3
-slice_bounds-spread_leave-end-3 c =
-    let p = c.requires in
-    let h = leave_stop p.1.sizes p.2 in
-    omega (arith, h.0, h.1, h.2, p.4)
+    sym (length-take-le _ _ (omega (arith, few (goal.at.slice_bounds-spread_leave-end-2 c).Start, c.requires.values)))
 
 pub slice_bounds-spread_leave-end-4 : goal.slice_bounds-spread_leave-end-4
 slice_bounds-spread_leave-end-4 c =
-    let p = c.requires in
-    let h = leave_stop p.1.sizes p.2 in
-    sym (length-take-le _ _ (omega (arith, h.0, h.1, h.2, p.4)))
+    sym (length-take-le _ _ (omega (arith, few (goal.at.slice_bounds-spread_leave-end-4 c).Start, c.requires.counts)))
 
-pub spread_leave-requires : goal.spread_leave-requires
-spread_leave-requires c =
-    let p = c.requires in
-    let h = leave_stop p.1.sizes p.2 in
-    (p.0, p.1, p.2, length-take-le _ _ (omega (arith, h.0, h.1, h.2, p.3)), length-take-le _ _ (omega (arith, h.0, h.1, h.2, p.4)))
+pub spread_leave-requires-clause-values : goal.spread_leave-requires-clause-values
+spread_leave-requires-clause-values c =
+    length-take-le _ _ (omega (arith, few (goal.at.spread_leave-requires-clause-values c).Start, c.requires.values))
+
+pub spread_leave-requires-clause-counts : goal.spread_leave-requires-clause-counts
+spread_leave-requires-clause-counts c =
+    length-take-le _ _ (omega (arith, few (goal.at.spread_leave-requires-clause-counts c).Start, c.requires.counts))

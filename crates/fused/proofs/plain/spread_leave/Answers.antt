@@ -1,21 +1,19 @@
--- `fused::plain::spread_leave` meets its contract. Assumes nothing.
-use mathlib.Core.Path.{sym, ◌∙◌}
-use lib.ListN.{length}
+use Rattle.std.proofs.Common.{sym, ◌∙◌, length}
 use Rattle.fused.specs.Zeta.{clipped, ways_at}
 use Rattle.fused.specs.Spreads.{drawn_at, spreads, taking}
-use Rattle.fused.proofs.Laws.{summed_long, leave_done, leave_left}
+use Rattle.fused.proofs.Laws.{rest_summed, summed_long, leave_done, leave_left}
 use Rattle.fused.proofs.plain.spread_leave.Goals as goal
 
 pub take_racks-requires : goal.take_racks-requires
 take_racks-requires c =
     let p = c.requires in
-    taking p.1 p.2 p.3 p.4
+    taking p.tables p.leave p.values p.counts
 
 pub spread-requires : goal.spread-requires
 spread-requires c =
     let p = c.requires in
     let t = c.take_racks.ensures in
-    (p.0, spreads p.1.sizes p.2 (summed_long _ t.0 p.3), summed_long _ t.1 p.4 ∙ sym (summed_long _ t.0 p.3))
+    record { spreads = spreads p.tables.sizes p.leave (summed_long _ t.values p.values); same = summed_long _ t.counts p.counts ∙ sym (summed_long _ t.values p.values) }
 
 pub returns-then-count : goal.returns-then-count
 returns-then-count c =
@@ -23,11 +21,14 @@ returns-then-count c =
     let p = c.requires in
     let n = length a.tally.now in
     let t = c.take_racks.ensures in
-    let v = c.sum_rest-value.ensures in
-    let w = c.sum_rest-count.ensures in
+    let v = c.sum_of-value.ensures ∙ rest_summed c.take_racks.new.values in
+    let w = c.sum_of-count.ensures ∙ rest_summed c.take_racks.new.counts in
     let taken = c.if-count.true in
     let e = c.spread.ensures in
-    (leave_done n a.lo a.ways.now (drawn_at a.lo a.ways.now (clipped a.best.now)) p.2 t.1 p.4 w taken t.0 p.3 v a.num.now e.0, leave_done n a.lo a.ways.now (ways_at a.lo a.ways.now) p.2 t.1 p.4 w taken t.1 p.4 w a.den.now e.1)
+    record {
+      num = leave_done n a.sizes.leaves a.ways.now (drawn_at a.sizes.leaves a.ways.now (clipped a.best.now)) p.leave t.counts p.counts w taken t.values p.values v a.num.now e.num;
+      den = leave_done n a.sizes.leaves a.ways.now (ways_at a.sizes.leaves a.ways.now) p.leave t.counts p.counts w taken t.counts p.counts w a.den.now e.den;
+    }
 
 pub returns-else-count : goal.returns-else-count
 returns-else-count c =
@@ -35,6 +36,9 @@ returns-else-count c =
     let p = c.requires in
     let n = length a.tally.now in
     let t = c.take_racks.ensures in
-    let w = c.sum_rest-count.ensures in
+    let w = c.sum_of-count.ensures ∙ rest_summed c.take_racks.new.counts in
     let left = c.if-count.false in
-    (leave_left n a.lo a.ways.now (drawn_at a.lo a.ways.now (clipped a.best.now)) p.2 t.1 p.4 w left a.num.now, leave_left n a.lo a.ways.now (ways_at a.lo a.ways.now) p.2 t.1 p.4 w left a.den.now)
+    record {
+      num = leave_left n a.sizes.leaves a.ways.now (drawn_at a.sizes.leaves a.ways.now (clipped a.best.now)) p.leave t.counts p.counts w left a.num.now;
+      den = leave_left n a.sizes.leaves a.ways.now (ways_at a.sizes.leaves a.ways.now) p.leave t.counts p.counts w left a.den.now;
+    }

@@ -1,50 +1,92 @@
--- `fused::plain::spread_racks` meets its contract. The loop's invariant: the leaves before the k-th are done, and the walk has reached it. Assumes nothing.
-use Prim.Native.Nat.{◌+◌, ◌<◌}
-use mathlib.Core.Path.{ap, ◌∙◌}
-use native.Mathlib.Omega.{arith}
-use lib.ListN.{length}
+-- A walk over the leaves of one tile less than a full rack. Assumes nothing.
+use Rattle.std.proofs.Common.{◌≡◌, ℕ, ◌+◌, ◌<◌, length, refl, ap, ◌∙◌, subst, arith}
 use Rattle.laws.specs.Loops.{ascend_more}
 use Rattle.lattice.specs.Tally.{start}
-use Rattle.lattice.specs.Served.{facts}
-use Rattle.extensions.specs.Onward.{reached_walks, some_leave}
+use Rattle.lattice.specs.Served.{Served, facts}
+use Rattle.extensions.specs.Racks.{Leave}
+use Rattle.extensions.specs.Onward.{reached_first, reached_walks, some_leave}
 use Rattle.fused.specs.Zeta.{clipped, ways_at}
 use Rattle.fused.specs.Spreads.{drawn_at, spread_leave, length_leave_added, leaves_from}
-use Rattle.fused.proofs.Laws.{leave_read, reached_on}
+use Rattle.fused.proofs.Laws.{leave_own, leave_read, reached_on, spreading_of}
+use Rattle.fused.proofs.plain.spread_racks.Goals.{Start}
 use Rattle.fused.proofs.plain.spread_racks.Goals as goal
 
-pub overflow_sub-r : goal.overflow_sub-r
-overflow_sub-r c = (facts _ _ c.requires.1.sizes).some_tile
+sizes : (c : goal.Start) → Served c.args.sizes.n c.args.sizes.r
+sizes c = facts c.args.sizes.n c.args.sizes.r c.args.sizes.is_served
+
+pub overflow_sub-sizes : goal.overflow_sub-sizes
+overflow_sub-sizes c = (sizes (goal.at.overflow_sub-sizes c).Start).some_tile
 
 pub size_start-from-requires : goal.size_start-from-requires
 size_start-from-requires c =
-    let p = c.requires in
-    let f = facts _ _ p.1.sizes in
-    (p.0, f.letters, omega (arith, f.tiles))
+    let f = sizes (goal.at.size_start-from-requires c).Start in
+    record { letters = f.letters; tiles = omega (arith, f.tiles) }
 
 pub extend_at-e-requires : goal.extend_at-e-requires
 extend_at-e-requires c =
+    let s = c.args.sizes in
     let from = c.size_start-from.ensures in
-    let e = c.requires.1.sizes in
-    (e, omega (arith, from), omega (arith, from, some_leave (length c.args.tally.now) c.args.r e))
+    rw c.requires.tally
+    (record { served = s.is_served; from = omega (arith, from); below = omega (arith, from, some_leave s.n s.r s.is_served) })
 
-pub overflow_sub-k-end : goal.overflow_sub-k-end
-overflow_sub-k-end c = leaves_from c.requires.1 c.size_start-from.ensures
+pub overflow_sub-end : goal.overflow_sub-end
+overflow_sub-end c = leaves_from c.requires.tables c.size_start-from.ensures
+
+pub loop-init : goal.loop-init
+loop-init c =
+    let s = c.args.sizes in
+    let first = subst (λ (k : ℕ). Leave k s.r c.size_start-from.result c.extend_at-e.new.tally c.extend_at-e.result.stop c.extend_at-e.result.first) c.requires.tally c.extend_at-e.ensures.leave in
+    let none : c.size_start-from.result + 0 ≡ c.size_start-from.result = omega arith in
+    record {
+      inside = omega arith;
+      num = refl;
+      den = refl;
+      nums = refl;
+      dens = refl;
+      reached = rw none (reached_first (first, c.extend_at-e.ensures.word));
+      values = refl;
+      counts = refl;
+    }
+
+pub spread_at-requires : goal.spread_at-requires
+spread_at-requires c =
+    let s = c.args.sizes in
+    let l = c.loop in
+    let at = l.invariant.reached in
+    record {
+      tables = spreading_of at.letters c.requires.tables;
+      leave = leave_own (at.here (omega (arith, l.invariant.inside, c.loop-test.true, s.starts)));
+      values = l.invariant.values;
+      counts = l.invariant.counts;
+    }
 
 pub next_leave-e-requires : goal.next_leave-e-requires
 next_leave-e-requires c =
-    let p = c.requires in
-    let from = c.size_start-from.ensures in
-    reached_walks c.loop-k.invariant.5 (omega (arith, from, c.loop-k-test.true, p.1.from)) p.1.sizes
+    let s = c.args.sizes in
+    let w = reached_walks c.loop.invariant.reached (omega (arith, c.loop-test.true, s.starts)) s.is_served in
+    record { walking = w.0; word = w.1 }
 
-pub loop-k-preserved : goal.loop-k-preserved
-loop-k-preserved c =
+pub loop-preserved : goal.loop-preserved
+loop-preserved c =
     let a = c.args in
-    let l = c.loop-k in
+    let s = a.sizes in
+    let l = c.loop in
     let v = c.spread_at.ensures in
+    let next = c.next_leave-e.ensures in
     let from = c.size_start-from.result in
-    let taken : from + l.k < start (length a.tally.now) a.r = omega (arith, c.loop-k-test.true, c.requires.1.from) in
-    let at = l.invariant.5.here taken in
-    let p = leave_read a.lo a.ways.now (drawn_at a.lo a.ways.now (clipped a.best.now)) l.num at v.0 in
-    let q = leave_read a.lo a.ways.now (ways_at a.lo a.ways.now) l.den at v.1 in
-    let n = length a.tally.now in
-    (omega (arith, c.loop-k-test.true), ascend_more (λ j. spread_leave n a.r a.lo a.ways.now (drawn_at a.lo a.ways.now (clipped a.best.now)) (from + j)) l.k a.num.now l.num _ l.invariant.1 p, ascend_more (λ j. spread_leave n a.r a.lo a.ways.now (ways_at a.lo a.ways.now) (from + j)) l.k a.den.now l.den _ l.invariant.2 q, ap length p ∙ length_leave_added _ _ _ _ _ _ ∙ l.invariant.3, ap length q ∙ length_leave_added _ _ _ _ _ _ ∙ l.invariant.4, reached_on from l.k l.invariant.5 taken c.next_leave-e.ensures, v.2, v.3)
+    let taken : from + l.counter < start s.n s.r = omega (arith, c.loop-test.true, s.starts) in
+    let at = l.invariant.reached.here taken in
+    let best = drawn_at s.leaves a.ways.now (clipped a.best.now) in
+    let ways = ways_at s.leaves a.ways.now in
+    let p = leave_read s.leaves a.ways.now best l.num at v.num in
+    let q = leave_read s.leaves a.ways.now ways l.den at v.den in
+    record {
+      inside = omega (arith, c.loop-test.true);
+      num = ascend_more (λ j. spread_leave s.n s.r s.leaves a.ways.now best (from + j)) l.counter a.num.now l.num _ l.invariant.num p;
+      den = ascend_more (λ j. spread_leave s.n s.r s.leaves a.ways.now ways (from + j)) l.counter a.den.now l.den _ l.invariant.den q;
+      nums = ap length p ∙ length_leave_added _ _ _ _ _ _ ∙ l.invariant.nums;
+      dens = ap length q ∙ length_leave_added _ _ _ _ _ _ ∙ l.invariant.dens;
+      reached = reached_on from l.counter l.invariant.reached taken (next.onward, next.word);
+      values = v.values;
+      counts = v.counts;
+    }

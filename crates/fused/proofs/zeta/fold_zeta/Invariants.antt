@@ -1,7 +1,5 @@
--- `fused::zeta::fold_zeta` meets its contract. The invariant: num and den are what the passes of the letters below t make of them at entry, and are as long. Assumes nothing.
-use Prim.Native.Nat.{◌≤◌}
-use mathlib.Core.Path.{◌≡◌}
-use lib.ListN.{length}
+-- num and den are what the passes of the letters below t make of them at entry, and are as long. Assumes nothing.
+use Rattle.std.proofs.Common.{◌≡◌, length}
 use Rattle.sums.specs.Folds.{sum_letter_f}
 use Rattle.fused.specs.Zeta.{clipped, sum_letter_w}
 use Rattle.laws.specs.Loops.{ascend}
@@ -9,4 +7,10 @@ use Rattle.fused.proofs.zeta.fold_zeta.Given as goal
 
 abbrev pub invariant-loop-t : goal.invariant-loop-t
 invariant-loop-t l =
-    (l.t ≤ l.n) × (length l.num ≡ length l.initial.num) × (length l.den ≡ length l.initial.den) × (l.num ≡ ascend (sum_letter_f l.lo l.ways (clipped l.best) l.n l.add l.unseen) l.t l.initial.num) × (l.den ≡ ascend (sum_letter_w l.lo l.ways l.n l.add l.unseen) l.t l.initial.den)
+    let s = l.ranks.sizes in
+    record {
+      nums : length l.num ≡ length l.initial.num;
+      dens : length l.den ≡ length l.initial.den;
+      num : l.num ≡ ascend (sum_letter_f s.leaves l.ways (clipped l.best) s.n l.ranks.add.now l.unseen) l.t l.initial.num;
+      den : l.den ≡ ascend (sum_letter_w s.leaves l.ways s.n l.ranks.add.now l.unseen) l.t l.initial.den;
+    }

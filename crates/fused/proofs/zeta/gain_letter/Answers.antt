@@ -1,12 +1,28 @@
--- `fused::zeta::gain_letter` meets its contract. The part of a letter has the ranks of the table by index, so both arms make the same pass. Assumes nothing.
+-- The part of a letter has the ranks of the table by index, so both arms make the same pass. Assumes nothing.
+use Rattle.std.proofs.Common.{◌∙◌}
 use Rattle.sums.specs.Folds.{gained_f}
+use Rattle.maxima.proofs.Laws.{ranks_rise}
 use Rattle.fused.specs.Zeta.{clipped, gained_w}
-use Rattle.fused.proofs.Laws.{part_pass}
+use Rattle.fused.proofs.Judges.{whole}
+use Rattle.fused.proofs.Laws.{own_ranks, own_pass}
 use Rattle.fused.proofs.zeta.gain_letter.Goals as goal
 
-pub returns-else-part-eq0 : goal.returns-else-part-eq0
-returns-else-part-eq0 c =
+pub gain_rows-requires-clause-ranks : goal.gain_rows-requires-clause-ranks
+gain_rows-requires-clause-ranks c =
+    let t = c.args.ranks.now in
+    ranks_rise t.sizes.starts t.by_index (c.requires.inside ∙ whole t.sizes)
+
+pub gain_order-requires-clause-ranks : goal.gain_order-requires-clause-ranks
+gain_order-requires-clause-ranks c =
+    let t = c.args.ranks.now in
+    own_ranks t.sizes.is_served t.sizes.starts (c.requires.inside ∙ whole t.sizes) t.by_index (t.letter_by_letter c.in-Some.letters c.in-Some.is) c.requires.letter c.letter-part.ensures
+
+pub returns-in-Some : goal.returns-in-Some
+returns-in-Some c =
     let a = c.args in
-    let passed = part_pass _ _ _ _ _ _ _ c.requires.0 c.requires.1 c.requires.2 c.letter-part.ensures c.if-part-eq0.false in
-    let made = c.gain_order.ensures in
-    (passed (gained_f a.lo a.ways.now (clipped a.best.now)) _ _ made.0, passed (gained_w a.lo a.ways.now) _ _ made.1)
+    let t = a.ranks.now in
+    let passed = own_pass t.sizes.is_served t.sizes.starts (c.requires.inside ∙ whole t.sizes) t.by_index (t.letter_by_letter c.in-Some.letters c.in-Some.is) c.requires.letter c.letter-part.ensures in
+    record {
+      num = passed (gained_f t.sizes.leaves a.ways.now (clipped a.best.now)) _ _ c.gain_order.ensures.num;
+      den = passed (gained_w t.sizes.leaves a.ways.now) _ _ c.gain_order.ensures.den;
+    }

@@ -1,8 +1,5 @@
--- `fused::zeta::gain_rows` meets its contract. The loop counts down. The invariant: what is left of the pass makes of num and den what the whole pass makes of them at entry.
--- Assumes nothing.
-use Prim.Native.Nat.{◌≤◌}
-use mathlib.Core.Path.{◌≡◌}
-use lib.ListN.{length}
+-- What is left of the pass makes of num and den what the whole pass makes of them at entry. Assumes nothing.
+use Rattle.std.proofs.Common.{◌≡◌, length}
 use Rattle.laws.specs.Loops.{descend}
 use Rattle.sums.specs.Folds.{gained_f, sum_pass_f}
 use Rattle.lattice.specs.Tables.{up}
@@ -10,7 +7,10 @@ use Rattle.fused.specs.Zeta.{clipped, gained_w, sum_pass_w}
 use Rattle.fused.proofs.zeta.gain_rows.Given as goal
 
 abbrev pub invariant-loop-idx : goal.invariant-loop-idx
-invariant-loop-idx l = (l.idx ≤ l.lo) × (length l.num ≡ length l.initial.num) × (length l.den ≡ length l.initial.den) × (descend (λ i. gained_f l.lo l.ways (clipped l.best) i (up l.n l.add l.t i)) l.idx l.num ≡ sum_pass_f l.lo l.ways (clipped l.best) (up l.n l.add l.t) l.initial.num) × (descend (λ i. gained_w l.lo l.ways i (up l.n l.add l.t i)) l.idx l.den ≡ sum_pass_w l.lo l.ways (up l.n l.add l.t) l.initial.den)
-
-abbrev pub decreases-loop-idx : goal.decreases-loop-idx
-decreases-loop-idx l = l.idx
+invariant-loop-idx l =
+    record {
+      nums : length l.num ≡ length l.initial.num;
+      dens : length l.den ≡ length l.initial.den;
+      num : descend (λ i. gained_f l.lo l.ways (clipped l.best) i (up l.n l.add l.t i)) l.idx l.num ≡ sum_pass_f l.lo l.ways (clipped l.best) (up l.n l.add l.t) l.initial.num;
+      den : descend (λ i. gained_w l.lo l.ways i (up l.n l.add l.t i)) l.idx l.den ≡ sum_pass_w l.lo l.ways (up l.n l.add l.t) l.initial.den;
+    }

@@ -1,25 +1,24 @@
--- `lattice::Lattice::full_rack_start` meets its contract. A start is below the length, and fits. Assumes nothing.
-use Rattle.std.proofs.Common.{sym, ◌∙◌, arith}
+use Rattle.std.proofs.Common.{arith}
+use Rattle.std.proofs.lemmas.Result.{err_from_is_err_and}
+use Rattle.lattice.specs.Answers.{full_rack_start_answer}
 use Rattle.lattice.specs.Served.{facts, length_small}
 use Rattle.lattice.proofs.Ranks.{start_grows}
-use Rattle.lattice.specs.Answers.{full_rack_start_answer}
 use Rattle.lattice.proofs.Calls.{full_rack_start_gives}
 use Rattle.lattice.proofs.Lattice.full_rack_start.Goals as goal
 
-pub start_of-requires : goal.start_of-requires
-start_of-requires c =
-    let s = facts c.args.self.n c.args.self.r (sym c.serves.ensures ∙ c.if-serves.true) in
-    (s.letters, omega arith)
+pub returns-in_err-sizes : goal.returns-in_err-sizes
+unfolding full_rack_start_answer
+returns-in_err-sizes c =
+    let p = err_from_is_err_and c.from_residual.result c.from_residual.ensures.1 in
+    rw (p.1, p.2, c.in_err-sizes.ensures.0) (full_rack_start_gives (rw c.in_err-sizes.ensures.1))
 
 pub overflow_cast-result : goal.overflow_cast-result
 overflow_cast-result c =
-    let s = length_small c.args.self.n c.args.self.r (facts c.args.self.n c.args.self.r (sym c.serves.ensures ∙ c.if-serves.true)) in
-    omega (arith, c.start_of.ensures, start_grows c.args.self.n c.args.self.r c.args.self.r (omega arith))
+    let s = c.in_ok-sizes.sizes in
+    omega (arith, s.starts, start_grows s.n s.r s.r (omega arith), length_small s.n s.r (facts s.n s.r s.is_served))
 
-pub returns-then-serves : goal.returns-then-serves
+pub returns : goal.returns
 unfolding full_rack_start_answer
-returns-then-serves c = full_rack_start_gives (rw (sym c.serves.ensures ∙ c.if-serves.true, ← c.start_of.ensures))
-
-pub returns-else-serves : goal.returns-else-serves
-unfolding full_rack_start_answer
-returns-else-serves c = full_rack_start_gives (rw (sym c.serves.ensures ∙ c.if-serves.false))
+returns c =
+    let s = c.in_ok-sizes.sizes in
+    rw (← c.in_ok-sizes.ensures.0, ← c.in_ok-sizes.ensures.1) (full_rack_start_gives (rw (s.is_served, ← s.starts)))

@@ -1,24 +1,23 @@
--- `lattice::Lattice::len` meets its contract. The length is an entry of the table. Assumes nothing.
-use Rattle.std.proofs.Common.{sym, ◌∙◌, add_comm, arith}
-use Rattle.lattice.specs.Served.{facts, length_small}
+use Rattle.std.proofs.Common.{arith}
+use Rattle.std.proofs.lemmas.Result.{err_from_is_err_and}
 use Rattle.lattice.specs.Answers.{len_answer}
+use Rattle.lattice.specs.Served.{facts}
 use Rattle.lattice.proofs.Calls.{len_gives}
 use Rattle.lattice.proofs.Lattice.len.Goals as goal
 
-pub constant-requires : goal.constant-requires
-constant-requires c =
-    let s = facts c.args.self.n c.args.self.r (sym c.serves.ensures ∙ c.if-serves.true) in
-    (s.letters, omega arith)
+pub returns-in_err-sizes : goal.returns-in_err-sizes
+unfolding len_answer
+returns-in_err-sizes c =
+    let p = err_from_is_err_and c.from_residual.result c.from_residual.ensures.1 in
+    rw (p.1, p.2, c.in_err-sizes.ensures.0) (len_gives (rw c.in_err-sizes.ensures.1))
 
 pub overflow_cast-result : goal.overflow_cast-result
 overflow_cast-result c =
-    let s = length_small c.args.self.n c.args.self.r (facts c.args.self.n c.args.self.r (sym c.serves.ensures ∙ c.if-serves.true)) in
-    omega (arith, c.constant.ensures)
+    let s = c.in_ok-sizes.sizes in
+    omega (arith, s.counts, (facts s.n s.r s.is_served).few)
 
-pub returns-then-serves : goal.returns-then-serves
+pub returns : goal.returns
 unfolding len_answer
-returns-then-serves c = len_gives (rw (sym c.serves.ensures ∙ c.if-serves.true, add_comm c.args.self.n c.args.self.r, ← c.constant.ensures))
-
-pub returns-else-serves : goal.returns-else-serves
-unfolding len_answer
-returns-else-serves c = len_gives (rw (sym c.serves.ensures ∙ c.if-serves.false))
+returns c =
+    let s = c.in_ok-sizes.sizes in
+    rw (← c.in_ok-sizes.ensures.0, ← c.in_ok-sizes.ensures.1) (len_gives (rw (s.is_served, ← s.counts)))

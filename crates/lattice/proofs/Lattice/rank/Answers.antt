@@ -1,23 +1,27 @@
--- `lattice::Lattice::rank` meets its contract. The sizes, the length, and the rank by either pass. Assumes nothing.
-use Rattle.std.proofs.Common.{sym, ◌∙◌, eq-eqb, ne_eqb}
-use Rattle.lattice.specs.Answers.{rank_answer}
+use Rattle.std.proofs.Common.{◌∙◌, ap, eq-eqb, ne_eqb}
+use Rattle.std.proofs.lemmas.Result.{err_from_is_err_and}
+use Rattle.lattice.specs.Answers.{served, rank_answer}
 use Rattle.lattice.proofs.Calls.{rank_gives}
 use Rattle.lattice.proofs.Lattice.rank.Goals as goal
 
-pub returns-then-r-lt4 : goal.returns-then-r-lt4
+pub returns-in_err-sizes : goal.returns-in_err-sizes
 unfolding rank_answer
-returns-then-r-lt4 c =
-    rank_gives (rw (sym c.serves.ensures ∙ c.if-serves.true, eq-eqb _ _ c.if-tally-n.true, ← c.if-tally-n.true) (c.answer_of.ensures ∙ c.rank_few.ensures))
+returns-in_err-sizes c =
+    let p = err_from_is_err_and c.from_residual.result c.from_residual.ensures.1 in
+    rw (p.1, p.2, c.in_err-sizes.ensures.0) (rank_gives (rw c.in_err-sizes.ensures.1))
 
-pub returns-else-n-lt8 : goal.returns-else-n-lt8
+pub returns-then-tally-sizes : goal.returns-then-tally-sizes
 unfolding rank_answer
-returns-else-n-lt8 c =
-    rank_gives (rw (sym c.serves.ensures ∙ c.if-serves.true, eq-eqb _ _ c.if-tally-n.true, ← c.if-tally-n.true) (c.answer_of-else-n-lt8.ensures ∙ c.rank_runs.ensures))
+returns-then-tally-sizes c =
+    let s = c.in_ok-sizes.sizes in
+    rw (← c.in_ok-sizes.ensures.0, ← c.in_ok-sizes.ensures.1) (rank_gives (rw (s.is_served, ne_eqb _ _ c.if-tally-sizes.true)))
 
-pub returns-else-tally-n : goal.returns-else-tally-n
-unfolding rank_answer
-returns-else-tally-n c = rank_gives (rw (sym c.serves.ensures ∙ c.if-serves.true, ne_eqb _ _ c.if-tally-n.false))
+pub rank_within-requires : goal.rank_within-requires
+rank_within-requires c = let s = c.in_ok-sizes.sizes in ap (λ n. served n s.r) c.if-tally-sizes.false ∙ s.is_served
 
-pub returns-else-serves : goal.returns-else-serves
+pub returns : goal.returns
 unfolding rank_answer
-returns-else-serves c = rank_gives (rw (sym c.serves.ensures ∙ c.if-serves.false))
+returns c =
+    let s = c.in_ok-sizes.sizes in
+    rw (← c.in_ok-sizes.ensures.0, ← c.in_ok-sizes.ensures.1)
+    (rank_gives (rw (s.is_served, eq-eqb _ _ c.if-tally-sizes.false, ← c.if-tally-sizes.false) c.rank_within.ensures))

@@ -1,49 +1,82 @@
--- `lattice::Lattice::rank_bytes` meets its contract. The sizes, the number of tiles, and the rank of their tally or the refusal. Assumes nothing.
-use Rattle.std.proofs.Common.{ℕ, cond, List, replicate, sym, ap, ◌∙◌, le-leb}
+use mathlib.Core.Bool.{false≢true}
+use Rattle.std.proofs.Common.{◌≡◌, ◌≤◌, length, replicate, true, sym, refl, ap, ◌∙◌, le-leb, arith}
+use Rattle.std.proofs.lemmas.Result.{err_from_is_err_and}
 use borrow.Author.Tests.{lt-leb}
-use Rattle.lattice.specs.Tally.{rank_of}
+use Rattle.std.specs.Prelude.{Ok}
+use Rattle.lattice.specs.Tally.{total, rank_of}
 use Rattle.lattice.specs.Tiles.{tally_of, letters_below}
-use Rattle.lattice.specs.Answers.{served, rank_bytes_answer}
-use Rattle.lattice.specs.declared.Ranked.TheVariants.{At, Refused}
+use Rattle.lattice.specs.Answers.{served, rank_within, rank_bytes_answer}
 use Rattle.lattice.specs.Served.{facts}
-use Rattle.lattice.proofs.Counts.{take_zeros, length_zeros}
+use Rattle.lattice.proofs.Counts.{take_zeros, length_zeros, letters_all, not_letters, length_tally_of, total_tally_of}
 use Rattle.lattice.proofs.Calls.{rank_bytes_gives}
+use Rattle.lattice.proofs.Lattice.rank_bytes.Goals.{Else-not-are_letters, After-count_tiles}
 use Rattle.lattice.proofs.Lattice.rank_bytes.Goals as goal
 
+pub returns-in_err-sizes : goal.returns-in_err-sizes
+unfolding rank_bytes_answer
+returns-in_err-sizes c =
+    let p = err_from_is_err_and c.from_residual.result c.from_residual.ensures.1 in
+    rw (p.1, p.2, c.in_err-sizes.ensures.0) (rank_bytes_gives (rw c.in_err-sizes.ensures.1))
+
+pub returns-then-not-are_letters : goal.returns-then-not-are_letters
+unfolding rank_bytes_answer
+returns-then-not-are_letters c =
+    let s = c.in_ok-sizes.sizes in
+    rw (← c.in_ok-sizes.ensures.0, ← c.in_ok-sizes.ensures.1) (rank_bytes_gives (rw (s.is_served, not_letters s.n c.args.tiles.now (λ a. false≢true (c.if-not-are_letters.ensures.1 a)))))
+
+-- past the tests of letters and tiles
+below : (c : goal.Else-not-are_letters) → letters_below c.in_ok-sizes.sizes.n c.args.tiles.now ≡ true
+below c = letters_all c.in_ok-sizes.sizes.n c.args.tiles.now (c.if-not-are_letters.ensures.0 refl)
+
+pub returns-then-sizes-tiles : goal.returns-then-sizes-tiles
+unfolding rank_bytes_answer
+returns-then-sizes-tiles c =
+    let s = c.in_ok-sizes.sizes in
+    rw (← c.in_ok-sizes.ensures.0, ← c.in_ok-sizes.ensures.1)
+    (rank_bytes_gives (rw (s.is_served, below (goal.at.returns-then-sizes-tiles c).Else-not-are_letters, lt-leb _ _ c.if-sizes-tiles.true)))
+
 pub slice_bounds-tally-end : goal.slice_bounds-tally-end
-slice_bounds-tally-end c =
-    let a = c.args.self in
-    (facts a.n a.r (sym c.serves.ensures ∙ c.if-serves.true)).letters
+slice_bounds-tally-end c = let f = facts _ _ c.in_ok-sizes.sizes.is_served in omega arith
 
-pub slice_bounds-rank_counted-end : goal.slice_bounds-rank_counted-end
-slice_bounds-rank_counted-end c =
-    let a = c.args.self in
-    let s = facts a.n a.r (sym c.serves.ensures ∙ c.if-serves.true) in
-    sym (length_zeros a.n 64 s.letters)
+-- the tally begins with no tiles
+pub slice_bounds-tally-end-2 : goal.slice_bounds-tally-end-2
+slice_bounds-tally-end-2 c = let f = facts _ _ c.in_ok-sizes.sizes.is_served in sym (length_zeros c.in_ok-sizes.sizes.n 64 f.letters)
 
-pub rank_counted-requires : goal.rank_counted-requires
-rank_counted-requires c =
-    let a = c.args.self in
-    let right = sym c.serves.ensures ∙ c.if-serves.true in
-    let s = facts a.n a.r right in
-    let e = length_zeros a.n 64 s.letters in
-    (ap (λ (k : ℕ). served k a.r) e ∙ right, take_zeros a.n 64 s.letters ∙ ap (λ (k : ℕ). replicate k 0) (sym e), c.if-tiles-r.true)
+pub count_tiles-requires : goal.count_tiles-requires
+count_tiles-requires c =
+    let s = c.in_ok-sizes.sizes in
+    let f = facts _ _ s.is_served in
+    let e = length_zeros s.n 64 f.letters in
+    record {
+      clear = take_zeros s.n 64 f.letters ∙ ap (λ k. replicate k 0) (sym e);
+      few = omega (arith, c.if-sizes-tiles.false);
+      letters = rw e (below (goal.at.count_tiles-requires c).Else-not-are_letters);
+    }
 
-pub returns-then-tiles-r : goal.returns-then-tiles-r
+-- and ends with all that there are
+counted : (c : goal.After-count_tiles) → c.count_tiles.new.tally ≡ tally_of c.in_ok-sizes.sizes.n c.args.tiles.now
+counted c =
+    let s = c.in_ok-sizes.sizes in
+    let f = facts _ _ s.is_served in
+    c.count_tiles.ensures ∙ ap (λ k. tally_of k c.args.tiles.now) (length_zeros s.n 64 f.letters)
+
+letters : (c : goal.After-count_tiles) → length c.count_tiles.new.tally ≡ c.in_ok-sizes.sizes.n
+letters c = ap length (counted c) ∙ length_tally_of _ _
+
+pub rank_within-requires : goal.rank_within-requires
+rank_within-requires c =
+    let s = c.in_ok-sizes.sizes in
+    ap (λ k. served k s.r) (letters (goal.at.rank_within-requires c).After-count_tiles) ∙ s.is_served
+
+pub returns : goal.returns
 unfolding rank_bytes_answer
-returns-then-tiles-r c =
-    let a = c.args.self in
-    let right = sym c.serves.ensures ∙ c.if-serves.true in
-    let s = facts a.n a.r right in
-    let xs : List ℕ = c.args.tiles.now in
-    rank_bytes_gives (rw (right, le-leb _ _ c.if-tiles-r.true)
-    (c.rank_counted.ensures
-    ∙ ap (λ (n : ℕ). cond (letters_below n xs) (At (rank_of n (tally_of n xs))) (Refused 3)) (length_zeros a.n 64 s.letters)))
-
-pub returns-else-tiles-r : goal.returns-else-tiles-r
-unfolding rank_bytes_answer
-returns-else-tiles-r c = rank_bytes_gives (rw (sym c.serves.ensures ∙ c.if-serves.true, lt-leb _ _ c.if-tiles-r.false) (rw c.letters_below.ensures at c.too_many.ensures))
-
-pub returns-else-serves : goal.returns-else-serves
-unfolding rank_bytes_answer
-returns-else-serves c = rank_bytes_gives (rw (sym c.serves.ensures ∙ c.if-serves.false))
+returns c =
+    let s = c.in_ok-sizes.sizes in
+    let few : length c.args.tiles.now ≤ s.r = c.if-sizes-tiles.false in
+    let b = below (goal.at.returns c).Else-not-are_letters in
+    let e = counted (goal.at.returns c).After-count_tiles in
+    let l = letters (goal.at.returns c).After-count_tiles in
+    let fits : total (tally_of s.n c.args.tiles.now) ≤ s.r = rw (total_tally_of s.n c.args.tiles.now b) few in
+    let ranked : rank_within (length c.count_tiles.new.tally) s.r c.count_tiles.new.tally ≡ Ok (rank_of s.n (tally_of s.n c.args.tiles.now)) = rw (l, e, le-leb _ _ fits) in
+    rw (← c.in_ok-sizes.ensures.0, ← c.in_ok-sizes.ensures.1)
+    (rank_bytes_gives (rw (s.is_served, b, le-leb _ _ few) (c.rank_within.ensures ∙ ranked)))

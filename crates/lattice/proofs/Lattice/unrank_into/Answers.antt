@@ -1,51 +1,46 @@
--- `lattice::Lattice::unrank_into` meets its contract. The sizes, the length, the index, and the tally. Assumes nothing.
-use Rattle.std.proofs.Common.{◌+◌, ◌<◌, ◌≤◌, sym, refl, ◌∙◌, add_comm, arith, le-ltb, lt-ltb, eq-eqb, ne_eqb}
-use Rattle.lattice.specs.Binomial.{binomial}
+use Rattle.std.proofs.Common.{◌+◌, ◌<◌, ◌≤◌, refl, add_comm, arith, le-ltb, lt-ltb, eq-eqb, ne_eqb}
+use Rattle.std.proofs.lemmas.Result.{err_from_is_err_and}
+use Rattle.binomials.specs.Binomial.{binomial}
 use Rattle.lattice.specs.Answers.{unrank_number, tally_at}
-use Rattle.lattice.specs.Served.{facts}
 use Rattle.lattice.proofs.Lattice.unrank_into.Goals as goal
 
-pub length_of-requires : goal.length_of-requires
-length_of-requires c =
-    let s = facts c.args.self.n c.args.self.r (sym c.serves.ensures ∙ c.if-serves.true) in
-    (s.letters, s.tiles)
-
-pub returns-then-rank-length_of : goal.returns-then-rank-length_of
+pub returns-in_err-sizes : goal.returns-in_err-sizes
 unfolding unrank_number
-returns-then-rank-length_of c =
-    let a = c.args in
-    let l : a.idx < binomial (a.self.n + a.self.r) a.self.n = rw add_comm (omega (arith, c.length_of.ensures)) in
-    record {
-      answered = rw (sym c.serves.ensures ∙ c.if-serves.true, eq-eqb _ _ c.if-out-n.true, lt-ltb _ _ l);
+returns-in_err-sizes c =
+    let p = err_from_is_err_and c.from_residual.result c.from_residual.ensures.1 in
+    rw (p.1, p.2, c.in_err-sizes.ensures.0)
+    (record { answered = rw c.in_err-sizes.ensures.1; untouched = λ f. refl; filled = λ z. absurd (omega arith) })
+
+pub returns-then-out-sizes : goal.returns-then-out-sizes
+unfolding unrank_number
+returns-then-out-sizes c =
+    let s = c.in_ok-sizes.sizes in
+    rw (← c.in_ok-sizes.ensures.0, ← c.in_ok-sizes.ensures.1)
+    (record { answered = rw (s.is_served, ne_eqb _ _ c.if-out-sizes.true); untouched = λ f. refl; filled = λ z. absurd (omega arith) })
+
+pub returns-then-sizes-idx : goal.returns-then-sizes-idx
+unfolding unrank_number
+returns-then-sizes-idx c =
+    let s = c.in_ok-sizes.sizes in
+    let l : binomial (s.n + s.r) s.n ≤ c.args.idx = omega (arith, s.counts) in
+    rw (← c.in_ok-sizes.ensures.0, ← c.in_ok-sizes.ensures.1)
+    (record {
+      answered = rw (s.is_served, eq-eqb _ _ c.if-out-sizes.false, le-ltb _ _ l);
+      untouched = λ f. refl;
+      filled = λ z. absurd (omega arith);
+    })
+
+pub unrank_within-requires : goal.unrank_within-requires
+unrank_within-requires c = let s = c.in_ok-sizes.sizes in record { sizes = rw c.if-out-sizes.false s.is_served; inside = rw (c.if-out-sizes.false, add_comm s.r s.n) (omega (arith, s.counts)) }
+
+pub returns : goal.returns
+unfolding unrank_number
+returns c =
+    let s = c.in_ok-sizes.sizes in
+    let l : c.args.idx < binomial (s.n + s.r) s.n = omega (arith, s.counts) in
+    rw (← c.in_ok-sizes.ensures.0, ← c.in_ok-sizes.ensures.1)
+    (record {
+      answered = rw (s.is_served, eq-eqb _ _ c.if-out-sizes.false, lt-ltb _ _ l);
       untouched = λ f. absurd (f refl);
-      filled = λ z. tally_at a.self.n a.self.r a.idx _ (rw c.if-out-n.true at c.unrank_once.ensures);
-    }
-
-pub returns-else-rank-length_of : goal.returns-else-rank-length_of
-unfolding unrank_number
-returns-else-rank-length_of c =
-    let a = c.args in
-    let l : binomial (a.self.n + a.self.r) a.self.n ≤ a.idx = rw add_comm (omega (arith, c.length_of.ensures)) in
-    record {
-      answered = rw (sym c.serves.ensures ∙ c.if-serves.true, eq-eqb _ _ c.if-out-n.true, le-ltb _ _ l);
-      untouched = λ f. refl;
-      filled = λ z. absurd (omega arith);
-    }
-
-pub returns-else-out-n : goal.returns-else-out-n
-unfolding unrank_number
-returns-else-out-n c =
-    record {
-      answered = rw (sym c.serves.ensures ∙ c.if-serves.true, ne_eqb _ _ c.if-out-n.false);
-      untouched = λ f. refl;
-      filled = λ z. absurd (omega arith);
-    }
-
-pub returns-else-serves : goal.returns-else-serves
-unfolding unrank_number
-returns-else-serves c =
-    record {
-      answered = rw (sym c.serves.ensures ∙ c.if-serves.false);
-      untouched = λ f. refl;
-      filled = λ z. absurd (omega arith);
-    }
+      filled = λ z. tally_at s.n s.r c.args.idx _ (rw c.if-out-sizes.false at c.unrank_within.ensures);
+    })

@@ -1,28 +1,62 @@
--- `lattice::add::add_is_right` meets its contract. The first n of 64 zeros are the tails of the empty tally. Assumes nothing.
-use Rattle.std.proofs.Common.{ℕ, replicate, sym, ap, ◌∙◌, subst}
+-- `lattice::add::add_is_right` meets its contract. The invariant is that of `fill_table`; a row that is not right refutes the table. Assumes nothing.
+use Rattle.std.proofs.Common.{◌*◌, take, ◌∙◌, true≢false, arith}
+use mathlib.Core.Bool.{false≢true}
+use Rattle.lattice.specs.Tables.{up}
 use Rattle.lattice.specs.Served.{facts}
-use Rattle.lattice.specs.Leaves.{AddTable}
-use Rattle.lattice.specs.AddRows.{Decides}
-use Rattle.lattice.proofs.Counts.{take_zeros, length_zeros}
+use Rattle.lattice.specs.AddRows.{Decides, RowAt}
+use Rattle.lattice.specs.AddRow.{row_top}
+use Rattle.lattice.proofs.AddWalk.{more_right, right_in, table_done, table_fits, row_place, walk_letters}
+use Rattle.lattice.proofs.AddClose.{decides_part}
+use Rattle.lattice.proofs.add.add_is_right.Goals.{After-is_right}
 use Rattle.lattice.proofs.add.add_is_right.Goals as goal
 
-pub slice_bounds-rem-end : goal.slice_bounds-rem-end
-slice_bounds-rem-end c = (facts c.args.n c.args.r c.requires).letters
+pub overflow_mul-rows : goal.overflow_mul-rows
+overflow_mul-rows c = rw c.leaves-rows.ensures (omega (arith, table_fits c.args.n c.args.r (facts c.args.n c.args.r c.requires)))
 
-pub slice_bounds-rows_are_right-end : goal.slice_bounds-rows_are_right-end
-slice_bounds-rows_are_right-end c =
-    sym (length_zeros c.args.n 64 (facts c.args.n c.args.r c.requires).letters)
+pub returns-then-add-rows : goal.returns-then-add-rows
+returns-then-add-rows c = record {
+  yes = λ x. absurd (false≢true x);
+  no = λ x table. c.if-add-rows.true (rw c.leaves-rows.ensures table.rows);
+}
 
-pub rows_are_right-requires : goal.rows_are_right-requires
-rows_are_right-requires c =
-    let n : ℕ = c.args.n in
-    let r : ℕ = c.args.r in
-    let sizes = facts n r c.requires in
-    let e = length_zeros n 64 sizes.letters in
-    (c.binomials-t.ensures, rw e sizes, take_zeros n 64 sizes.letters ∙ ap (λ (k : ℕ). replicate k 0) (sym e))
+-- what the judge of a row tells of the table
+judged : (c : goal.After-is_right) → Decides c.is_right.result (RowAt (row_top c.loop-rank.walk.n c.loop-rank.walk.rank (take c.loop-rank.walk.n c.loop-rank.walk.tails)) (take c.loop-rank.walk.n c.loop-rank.walk.tails) (c.loop-rank.rank * c.args.n) c.args.add.now)
+judged c =
+    let at = c.loop-rank in
+    decides_part _ _ (at.rank * c.args.n) c.args.n c.args.add.now _ (walk_letters at.walk.sizes at.walk.tails_of at.walk.inside ∙ at.invariant.letters) c.is_right.ensures
+
+pub returns-then-not-is_right : goal.returns-then-not-is_right
+returns-then-not-is_right c =
+    let a = c.args in
+    let at = c.loop-rank in
+    let known = at.invariant in
+    record {
+      yes = λ x. absurd (false≢true x);
+      no = λ x table. (judged (goal.at.returns-then-not-is_right c).After-is_right).no c.if-not-is_right.true
+          (right_in known.letters known.tiles known.at at.walk.sizes at.walk.tails_of (omega (arith, c.loop-rank-test.true, c.leaves-rows.ensures)) (λ i t. up a.n a.add.now t i) table.entry);
+    }
+
+pub loop-rank-preserved : goal.loop-rank-preserved
+loop-rank-preserved c =
+    let a = c.args in
+    let at = c.loop-rank in
+    let known = at.invariant in
+    let step = c.advance.ensures in
+    let right = (judged (goal.at.loop-rank-preserved c).After-is_right).yes c.if-not-is_right.false in
+    record {
+      letters = step.n ∙ known.letters;
+      tiles = step.r ∙ known.tiles;
+      at = omega (arith, step.rank, known.at);
+      rows = more_right known.letters known.tiles known.at at.walk.sizes at.walk.tails_of (omega (arith, c.loop-rank-test.true, c.leaves-rows.ensures)) (λ i t. up a.n a.add.now t i) known.rows right;
+      before = step.before (at.rank * a.n) a.add.now right;
+      inside = omega (arith, c.advance.new.self.some_new, step.n, known.letters, row_place a.n _ at.rank c.loop-rank-test.true, c.if-add-rows.false);
+    }
 
 pub returns : goal.returns
 returns c =
     let a = c.args in
-    let e = length_zeros a.n 64 (facts a.n a.r c.requires).letters in
-    subst (λ (k : ℕ). Decides c.rows_are_right.result (AddTable k a.r a.add.now)) e c.rows_are_right.ensures
+    let known = c.loop-rank.invariant in
+    record {
+      yes = λ x. table_done a.n a.r (facts a.n a.r c.requires) a.add.now (rw c.leaves-rows.ensures at c.if-add-rows.false) (λ j t x y. known.rows j t (omega (arith, c.leaves-rows.ensures, c.loop-rank-test.false)) y);
+      no = λ x table. absurd (true≢false x);
+    }

@@ -1,39 +1,57 @@
--- `lattice::add::by_letter_is_right` meets its contract. The first n of 64 zeros are the tails of the empty tally. Assumes nothing.
-use Rattle.std.proofs.Common.{◌≡◌, ℕ, ◌*◌, replicate, sym, ap, ◌∙◌, subst, mul_comm, arith}
-use Rattle.lattice.specs.Tally.{start}
+-- `lattice::add::by_letter_is_right` meets its contract. The invariant is that of `fill_table`, where the row before stands in `row`; a row that is not the same refutes the table. Assumes nothing.
+use Rattle.std.proofs.Common.{◌≡◌, ℕ, ◌+◌, ◌*◌, ◌<◌, suc, length, get_or, take, ◌∙◌, ap, mul_comm, true≢false, arith}
+use mathlib.Core.Bool.{false≢true}
 use Rattle.lattice.specs.Served.{facts}
-use Rattle.lattice.specs.TableCalls.{LetterTable}
-use Rattle.lattice.specs.AddRows.{Decides}
-use Rattle.lattice.proofs.AddWalk.{table_fits}
-use Rattle.lattice.proofs.Counts.{take_zeros, length_zeros}
-use Rattle.lattice.proofs.add.by_letter_is_right.Goals.{Start}
+use Rattle.lattice.specs.AddRows.{Decides, lowered}
+use Rattle.lattice.specs.AddRow.{row_top}
+use Rattle.lattice.proofs.AddWalk.{more_right, right_in, rows_done, table_fits, walk_letters}
+use Rattle.lattice.proofs.AddNext.{decides_same}
+use Rattle.lattice.proofs.add.by_letter_is_right.Goals.{After-row_is_same}
 use Rattle.lattice.proofs.add.by_letter_is_right.Goals as goal
 
--- the length of the right table, as the code tests it
-size : (c : goal.Start) → c.args.rows * c.args.n ≡ c.args.n * start c.args.n c.args.r
-size c = ap (λ (k : ℕ). k * c.args.n) c.requires.1 ∙ mul_comm _ c.args.n
-
 pub overflow_mul-rows : goal.overflow_mul-rows
-overflow_mul-rows c =
-    rw c.requires.1 (omega (arith, table_fits c.args.n c.args.r (facts c.args.n c.args.r c.requires.0)))
+overflow_mul-rows c = rw c.requires.rows (omega (arith, table_fits c.args.n c.args.r (facts c.args.n c.args.r c.requires.served)))
 
-pub slice_bounds-rem-end : goal.slice_bounds-rem-end
-slice_bounds-rem-end c = (facts c.args.n c.args.r c.requires.0).letters
+-- what the comparison tells of the table
+judged : (c : goal.After-row_is_same) → Decides c.row_is_same.result ((k : ℕ) → k < length (take c.loop-rank.walk.n c.loop-rank.walk.tails) → get_or c.args.by_letter.now (k * c.args.rows + c.loop-rank.rank) 0 ≡ lowered (row_top c.loop-rank.walk.n c.loop-rank.walk.rank (take c.loop-rank.walk.n c.loop-rank.walk.tails)) (take c.loop-rank.walk.n c.loop-rank.walk.tails) (suc k))
+judged c =
+    let at = c.loop-rank in
+    decides_same _ _ c.args.n c.args.rows at.rank _ _ c.args.by_letter.now _ (walk_letters at.walk.sizes at.walk.tails_of at.walk.inside ∙ at.invariant.letters) (omega (arith, at.walk.sizes.letters, at.invariant.letters)) c.put.ensures c.row_is_same.ensures
 
-pub slice_bounds-letters_are_right-end : goal.slice_bounds-letters_are_right-end
-slice_bounds-letters_are_right-end c =
-    sym (length_zeros c.args.n 64 (facts c.args.n c.args.r c.requires.0).letters)
+pub returns-then-not-row_is_same : goal.returns-then-not-row_is_same
+returns-then-not-row_is_same c =
+    let a = c.args in
+    let at = c.loop-rank in
+    let known = at.invariant in
+    record {
+      yes = λ x. absurd (false≢true x);
+      no = λ x table. (judged (goal.at.returns-then-not-row_is_same c).After-row_is_same).no c.if-not-row_is_same.true
+          (right_in known.letters known.tiles known.at at.walk.sizes at.walk.tails_of (omega (arith, c.loop-rank-test.true, c.requires.rows)) (λ i t. get_or a.by_letter.now (t * a.rows + i) 0) (rw c.requires.rows table.entry));
+    }
 
-pub letters_are_right-requires : goal.letters_are_right-requires
-letters_are_right-requires c =
-    let n : ℕ = c.args.n in
-    let r : ℕ = c.args.r in
-    let sizes = facts n r c.requires.0 in
-    let e = length_zeros n 64 sizes.letters in
-    (c.binomials-t.ensures, rw e sizes, take_zeros n 64 sizes.letters ∙ ap (λ (k : ℕ). replicate k 0) (sym e), rw e sizes.letters, c.if-by_letter-rows.false ∙ size (goal.at.letters_are_right-requires c).Start ∙ ap (λ (k : ℕ). k * start k r) (sym e))
+pub loop-rank-preserved : goal.loop-rank-preserved
+loop-rank-preserved c =
+    let a = c.args in
+    let at = c.loop-rank in
+    let known = at.invariant in
+    let step = c.advance.ensures in
+    let right = (judged (goal.at.loop-rank-preserved c).After-row_is_same).yes c.if-not-row_is_same.false in
+    record {
+      letters = step.n ∙ known.letters;
+      tiles = step.r ∙ known.tiles;
+      at = omega (arith, step.rank, known.at);
+      rows = more_right known.letters known.tiles known.at at.walk.sizes at.walk.tails_of (omega (arith, c.loop-rank-test.true, c.requires.rows)) (λ i t. get_or a.by_letter.now (t * a.rows + i) 0) known.rows right;
+      before = step.before 0 _ c.put.ensures.row;
+    }
 
 pub returns : goal.returns
 returns c =
     let a = c.args in
-    let e = length_zeros a.n 64 (facts a.n a.r c.requires.0).letters in
-    subst (λ (k : ℕ). Decides c.letters_are_right.result (LetterTable k a.r a.by_letter.now)) e c.letters_are_right.ensures
+    let known = c.loop-rank.invariant in
+    record {
+      yes = λ x. record {
+        rows = c.if-by_letter-rows.false ∙ mul_comm a.rows a.n ∙ ap (λ (k : ℕ). a.n * k) c.requires.rows;
+        entry = rw (c.requires.rows) at (rows_done a.n a.r (facts a.n a.r c.requires.served) (λ i t. get_or a.by_letter.now (t * a.rows + i) 0) (λ j t x y. known.rows j t (omega (arith, c.requires.rows, c.loop-rank-test.false)) y));
+      };
+      no = λ x table. absurd (true≢false x);
+    }

@@ -1,5 +1,5 @@
--- `lattice::add::descends` meets its contract. The invariant: `wrong` is 0 exactly where the entries below k go down by one each. The measure is what is left of the entries. Assumes nothing.
-use Rattle.std.proofs.Common.{◌-◌, get_or, rules}
+-- `lattice::add::descends` meets its contract. The invariant: `wrong` is 0 exactly where the entries below k go down by one each. Assumes nothing.
+use Rattle.std.proofs.Common.{◌-◌, get_or}
 use Rattle.lattice.proofs.AddStores.{gathered}
 use Rattle.lattice.proofs.add.descends.Goals as goal
 
@@ -7,4 +7,4 @@ pub loop-k-preserved : goal.loop-k-preserved
 loop-k-preserved c =
     let a = c.args in
     let at = c.loop-k in
-    (search rules, search rules, gathered (λ j. get_or a.part.now j 0) (λ j. a.first - j) at.k at.wrong at.invariant.2)
+    gathered (λ j. get_or a.part.now j 0) (λ j. a.first - j) at.k at.wrong at.invariant

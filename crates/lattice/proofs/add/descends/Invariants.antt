@@ -1,7 +1,7 @@
--- `lattice::add::descends` meets its contract. The invariant: `wrong` is 0 exactly where the entries below k go down by one each. The measure is what is left of the entries. Assumes nothing.
-use Rattle.std.proofs.Common.{◌≡◌, ℕ, ◌-◌, ◌<◌, ◌≤◌, eqb, length, get_or}
+-- `lattice::add::descends` meets its contract. The invariant: `wrong` is 0 exactly where the entries below k go down by one each. Assumes nothing.
+use Rattle.std.proofs.Common.{◌≡◌, ℕ, ◌-◌, ◌<◌, eqb, get_or}
 use Rattle.lattice.specs.AddRows.{Decides}
 use Rattle.lattice.proofs.add.descends.Given as goal
 
 abbrev pub invariant-loop-k : goal.invariant-loop-k
-invariant-loop-k l = (l.n ≡ length l.part) × (l.k ≤ l.n) × Decides (eqb l.wrong 0) ((j : ℕ) → j < l.k → get_or l.part j 0 ≡ l.first - j)
+invariant-loop-k l = Decides (eqb l.wrong 0) ((j : ℕ) → j < l.k → get_or l.part j 0 ≡ l.first - j)

@@ -1,29 +1,28 @@
--- `lattice::add::fill_table` meets its contract. The first n of 64 zeros are the tails of the empty tally. Assumes nothing.
-use Rattle.std.proofs.Common.{ℕ, ◌*◌, replicate, sym, ap, ◌∙◌, subst}
-use Rattle.lattice.proofs.Counts.{take_zeros, length_zeros}
-use Rattle.lattice.specs.Tally.{start}
-use Rattle.lattice.specs.Leaves.{AddTable}
+-- `lattice::add::fill_table` meets its contract. The invariant: the walk stands at `rank`, the rows below are right, and the row before tells of the first letters. Assumes nothing.
+use Rattle.std.proofs.Common.{◌*◌, ◌∙◌, add-mul, one-mul, arith}
 use Rattle.lattice.specs.Served.{facts}
+use Rattle.lattice.proofs.AddWalk.{more_written, table_done}
 use Rattle.lattice.proofs.add.fill_table.Goals as goal
 
-pub slice_bounds-rem-end : goal.slice_bounds-rem-end
-slice_bounds-rem-end c = (facts c.args.n c.args.r c.requires.0).letters
-
-pub slice_bounds-fill_rows-end : goal.slice_bounds-fill_rows-end
-slice_bounds-fill_rows-end c =
+pub loop-rank-preserved : goal.loop-rank-preserved
+loop-rank-preserved c =
     let a = c.args in
-    sym (length_zeros a.n 64 (facts a.n a.r c.requires.0).letters)
-
-pub fill_rows-requires : goal.fill_rows-requires
-fill_rows-requires c =
-    let n : ℕ = c.args.n in
-    let r : ℕ = c.args.r in
-    let pre = c.requires in
-    let sizes = facts n r pre.0 in
-    let e = length_zeros n 64 sizes.letters in
-    (c.binomials-t.ensures, rw e sizes, take_zeros n 64 sizes.letters ∙ ap (λ (k : ℕ). replicate k 0) (sym e), pre.1 ∙ ap (λ (k : ℕ). start k r * k) (sym e))
+    let at = c.loop-rank in
+    let w = at.walk in
+    let known = at.invariant in
+    let step = c.advance.ensures in
+    record {
+      letters = step.n ∙ known.letters;
+      tiles = step.r ∙ known.tiles;
+      at = omega (arith, step.rank, known.at);
+      size = c.put.ensures.size ∙ known.size;
+      rows = more_written known.letters known.tiles known.at w.sizes w.tails_of (omega (arith, c.loop-rank-test.true, c.leaves-rank-end.ensures)) at.add _ known.rows c.put.ensures;
+      before = step.before (at.rank * a.n) c.put.new.add c.put.ensures.row;
+      apart = omega (arith, c.advance.new.self.some_new, step.n, known.letters, add-mul at.rank 1 a.n, one-mul a.n);
+    }
 
 pub returns : goal.returns
 returns c =
     let a = c.args in
-    subst (λ (k : ℕ). AddTable k a.r c.fill_rows.new.add) (length_zeros a.n 64 (facts a.n a.r c.requires.0).letters) c.fill_rows.ensures
+    let known = c.loop-rank.invariant in
+    table_done a.n a.r (facts a.n a.r c.requires.served) c.loop-rank.add (known.size ∙ c.requires.size) (λ j t x y. known.rows j t (omega (arith, c.leaves-rank-end.ensures, c.loop-rank-test.false)) y)

@@ -1,5 +1,5 @@
--- `lattice::add::follows_close` meets its contract. The invariant: `wrong` is 0 exactly where the entries below k are one more. The measure is what is left of the entries. Assumes nothing.
-use Rattle.std.proofs.Common.{◌+◌, get_or, rules}
+-- `lattice::add::follows_close` meets its contract. The invariant: `wrong` is 0 exactly where the entries that were passed are one more. Assumes nothing.
+use Rattle.std.proofs.Common.{◌+◌, get_or}
 use Rattle.lattice.proofs.AddStores.{gathered}
 use Rattle.lattice.proofs.add.follows_close.Goals as goal
 
@@ -7,4 +7,4 @@ pub loop-k-preserved : goal.loop-k-preserved
 loop-k-preserved c =
     let a = c.args in
     let at = c.loop-k in
-    (search rules, search rules, gathered (λ j. get_or a.row.now j 0) (λ j. get_or a.before.now j 0 + 1) at.k at.wrong at.invariant.2)
+    gathered (λ j. get_or a.row.now j 0) (λ j. get_or a.before.now j 0 + 1) at.k at.wrong at.invariant

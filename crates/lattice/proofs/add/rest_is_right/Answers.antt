@@ -6,26 +6,26 @@ use Rattle.lattice.proofs.add.rest_is_right.Goals.{Start}
 use Rattle.lattice.proofs.add.rest_is_right.Goals as goal
 
 known : (c : goal.Start) → get_or c.args.rem.now 0 0 ≡ 0 → Bare c.args.above c.args.rem.now c.args.row.now
-known c none = bare _ _ _ none c.requires.1 c.requires.2 c.requires.3 c.requires.4
+known c none = bare _ _ _ none c.requires.row c.requires.size c.requires.some c.requires.level
 
 tails : (c : goal.Start) → replicate (length c.args.row.now) (get_or c.args.rem.now 0 0) ≡ c.args.rem.now
-tails c = level_list c.args.rem.now (length c.args.row.now) c.requires.2 c.requires.4
+tails c = level_list c.args.rem.now (length c.args.row.now) c.requires.size c.requires.level
 
-pub overflow_sub-first : goal.overflow_sub-first
-overflow_sub-first c = omega (arith, (known (goal.at.overflow_sub-first c).Start c.if-v-eq0.true).room)
+pub overflow_sub-above : goal.overflow_sub-above
+overflow_sub-above c = omega (arith, (known (goal.at.overflow_sub-above c).Start c.if-v-eq0.true).room)
 
-pub overflow_cast-first : goal.overflow_cast-first
-overflow_cast-first c = omega (arith, (known (goal.at.overflow_cast-first c).Start c.if-v-eq0.true).fits)
+pub overflow_cast-above : goal.overflow_cast-above
+overflow_cast-above c = omega (arith, (known (goal.at.overflow_cast-above c).Start c.if-v-eq0.true).fits)
 
 pub descends-requires : goal.descends-requires
-descends-requires c = omega (arith, (known (goal.at.descends-requires c).Start c.if-v-eq0.true).room, c.requires.2)
+descends-requires c = omega (arith, (known (goal.at.descends-requires c).Start c.if-v-eq0.true).room, c.requires.size)
 
 pub returns-then-v-eq0 : goal.returns-then-v-eq0
 returns-then-v-eq0 c = (known (goal.at.returns-then-v-eq0 c).Start c.if-v-eq0.true).decides _ c.descends.ensures
 
 pub level_is_right-requires : goal.level_is_right-requires
 level_is_right-requires c =
-    (c.requires.0, subst (Row c.args.above) (sym (tails (goal.at.level_is_right-requires c).Start)) c.requires.1)
+    subst (Row c.args.above) (sym (tails (goal.at.level_is_right-requires c).Start)) c.requires.row
 
 pub returns : goal.returns
 returns c =

@@ -10,10 +10,10 @@ pub loop-k-preserved : goal.loop-k-preserved
 loop-k-preserved c =
     let a = c.args in
     let l = c.loop-k in
-    rw c.saturating_add.ensures (making_more a.n a.at a.out.now l.out l.k l.left c.requires.0 c.requires.1 l.invariant (get_or l.out (a.at + l.k) 0) c.loop-k-test.true refl)
+    rw c.saturating_add.ensures (making_more a.n a.at a.out.now l.out l.k l.left c.requires.room c.requires.row l.invariant (get_or l.out (a.at + l.k) 0) (omega arith) refl)
 
 pub returns : goal.returns
 returns c =
     let a = c.args in
     let l = c.loop-k in
-    making_ends a.n a.at a.out.now l.out l.k l.left c.requires.0 c.requires.1 l.invariant (omega arith)
+    making_ends a.n a.at a.out.now l.out l.k l.left c.requires.room c.requires.row l.invariant (omega arith)

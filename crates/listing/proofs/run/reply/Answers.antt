@@ -1,16 +1,13 @@
 -- What was read, and its listing.
-use Rattle.std.proofs.Common.{arith}
-use Rattle.listing.proofs.Accepting.{enough}
-use Rattle.listing.proofs.Given.{told}
+use Rattle.listing.proofs.Sending.{whole_read, listed_as}
 use Rattle.listing.proofs.run.reply.Goals as goal
 
-pub respond-requires : goal.respond-requires
-respond-requires g c =
-    let room = enough c.counts-pool.result c.entries-values.result (omega (arith, c.counts-pool.ensures)) (omega (arith, c.entries-values.ensures)) in
-    ((_, told room c.read_all-read.ensures.holds), c.requires)
+pub returns-clause-replied : goal.returns-clause-replied
+returns-clause-replied g c =
+    let all = c.read_all-given.ensures in
+    record { text = all.text; took = all.took; stop = all.stop; listed = c.respond.ensures all.text all.holds }
 
-pub returns : goal.returns
-returns g c =
-    let room = enough c.counts-pool.result c.entries-values.result (omega (arith, c.counts-pool.ensures)) (omega (arith, c.entries-values.ensures)) in
-    let all = c.read_all-read.ensures in
-    record { text = all.text; took = all.took; stop = all.stop; listed = c.respond.ensures all.text (told room all.holds) }
+pub returns-clause-whole : goal.returns-clause-whole
+returns-clause-whole g c =
+    let all = c.read_all-given.ensures in
+    whole_read _ _ c.read_all-given.result.1 _ all.took all.stop (λ text q. listed_as (c.respond.ensures all.text all.holds) q)

@@ -1,49 +1,38 @@
--- `search::calls::best_keep_of` meets its contract.
--- Assumes nothing.
-use borrow.Author.Rules.{rules}
-use mathlib.Core.Path.{sym, ap, ◌∙◌}
-use native.Mathlib.Omega.{arith}
-use Prim.Native.Nat.{ℕ}
-use lib.IntN.{ℤ}
-use lib.ListN.{length}
-use mir.Syntax.{w32}
-use mir.ValLaws.{to_z-of_z}
-use Rattle.search.specs.Order.{kept}
+use Rattle.std.proofs.Common.{ℕ, length, sym, refl, ap, ◌∙◌, arith, Err}
+use Rattle.std.proofs.lemmas.Result.{err_from_is_err_and}
 use Rattle.search.specs.BestKeep.{best_keep, keep_none}
-use Rattle.search.specs.Refusals.{sized}
-use Rattle.search.proofs.Keeping.{sized_keep, keep_refused, keep_is}
+use Rattle.search.specs.Refusals.{Sized, sized}
+use Rattle.search.specs.Answers.{leave_given, keep_value}
+use Rattle.search.proofs.Keeping.{sized_keep, keep_refused, keep_is, keep_given}
+use Rattle.search.proofs.calls.best_keep_of.Goals.{In_ok-rack_sizes}
 use Rattle.search.proofs.calls.best_keep_of.Goals as goal
 
+pub returns-in_err-rack_sizes : goal.returns-in_err-rack_sizes
+returns-in_err-rack_sizes c =
+    let p = err_from_is_err_and c.from_residual.result c.from_residual.ensures.1 in
+    keep_refused _ _ (p.1 ∙ ap Err p.2) c.in_err-rack_sizes.ensures.number
+
+-- the sizes are accepted
+sizes : (c : goal.In_ok-rack_sizes) → Sized c.args.lat.n c.args.lat.r (length c.args.leave.now) (length c.args.leave.now) c.args.tally.now
+sizes c = sized _ _ _ _ _ (sym c.in_ok-rack_sizes.ensures.number)
+
 pub tiles_of-tiles-requires : goal.tiles_of-tiles-requires
-tiles_of-tiles-requires c =
-    let a = c.args in
-    let none = sym c.sizes_number-refusal.ensures ∙ c.if-refusal-eq0.true in
-    let s = sized a.lat.n a.lat.r (length a.leave.now) (length a.leave.now) a.tally.now none in
-    omega (arith, s.letters, s.sizes.letters)
+tiles_of-tiles-requires c = let s = sizes c in omega (arith, s.letters, s.sizes.letters)
 
-pub best_keep-found-requires : goal.best_keep-found-requires
-best_keep-found-requires c =
+pub returns-then-tiles-keep : goal.returns-then-tiles-keep
+unfolding leave_given keep_value
+returns-then-tiles-keep c =
     let a = c.args in
-    let none = sym c.sizes_number-refusal.ensures ∙ c.if-refusal-eq0.true in
-    sized_keep a.leave.now a.tally.now (sized a.lat.n a.lat.r (length a.leave.now) (length a.leave.now) a.tally.now none) c.tiles_of-tiles.ensures (omega (arith, c.if-keep-tiles.true))
+    let e = keep_none a.leave.now a.lat.n a.tally.now a.keep (omega (arith, c.tiles_of-tiles.ensures, c.if-tiles-keep.true)) in
+    keep_is (sym c.in_ok-rack_sizes.ensures.number) e (rw (← e) refl)
 
-pub returns-then-keep-tiles : goal.returns-then-keep-tiles
-returns-then-keep-tiles c =
-    let a = c.args in
-    let none = sym c.sizes_number-refusal.ensures ∙ c.if-refusal-eq0.true in
-    let v = c.best_keep-found in
-    let e = ap (λ (z : ℤ). kept z v.result.rank) (to_z-of_z w32 v.result.value (search rules)) in
-    keep_is (best_keep a.leave.now a.lat.n a.tally.now a.keep) none
-    (e ∙ v.ensures ∙ ap (λ (k : ℕ). best_keep a.leave.now k a.tally.now a.keep) (sized a.lat.n a.lat.r (length a.leave.now) (length a.leave.now) a.tally.now none).letters)
+pub best_keep-requires : goal.best_keep-requires
+best_keep-requires c =
+    sized_keep _ _ (sizes (goal.at.best_keep-requires c).In_ok-rack_sizes) c.tiles_of-tiles.ensures (omega (arith, c.if-tiles-keep.false))
 
-pub returns-else-keep-tiles : goal.returns-else-keep-tiles
-returns-else-keep-tiles c =
+pub returns : goal.returns
+returns c =
     let a = c.args in
-    let none = sym c.sizes_number-refusal.ensures ∙ c.if-refusal-eq0.true in
-    keep_is (best_keep a.leave.now a.lat.n a.tally.now a.keep) none
-    (keep_none a.leave.now a.lat.n a.tally.now a.keep (omega (arith, c.tiles_of-tiles.ensures, c.if-keep-tiles.false)))
-
-pub returns-else-refusal-eq0 : goal.returns-else-refusal-eq0
-returns-else-refusal-eq0 c =
-    let a = c.args in
-    keep_refused (best_keep a.leave.now a.lat.n a.tally.now a.keep) c.sizes_number-refusal.result c.sizes_number-refusal.ensures c.if-refusal-eq0.false
+    let s = sizes (goal.at.returns c).In_ok-rack_sizes in
+    let e = c.best_keep.ensures ∙ ap (λ (k : ℕ). leave_given (best_keep a.leave.now k a.tally.now a.keep)) s.letters in
+    keep_is (sym c.in_ok-rack_sizes.ensures.number) (rw e (keep_given _ _ _ _ s)) e

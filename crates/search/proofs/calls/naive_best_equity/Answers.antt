@@ -1,76 +1,55 @@
--- `search::calls::naive_best_equity` meets its contract.
--- Assumes nothing.
-use borrow.Author.Rules.{rules}
-use mathlib.Core.Path.{◌≡◌, sym, ap, ◌∙◌, subst}
-use mathlib.Core.Bool.{Bool, cond}
-use lib.IntN.{ℤ, pos}
-use lib.ListN.{length}
-use lib.Signed.{◌≤ℤ◌, ◌<ℤ◌}
-use mir.Syntax.{w32}
-use mir.Val.{to_z, of_z}
+use Rattle.std.proofs.Common.{◌≡◌, length, cond, sym, refl, ap, ◌∙◌, Ok, Err, w32, to_z, of_z, rules}
+use Rattle.std.proofs.lemmas.Result.{err_from_is_err_and}
 use mir.ValLaws.{to_z-of_z}
-use Rattle.laws.specs.Integer.{lt_z_true, lt_z_false}
-use Rattle.search.specs.Refusals.{naive_sizes, Sized, naive_sized}
+use Rattle.search.specs.Answers.{Played}
+use Rattle.search.specs.Refusals.{Sized, naive_sizes, naive_sized}
+use Rattle.search.specs.declared.calls.Kind.TheVariants.{Word, Exchange}
 use Rattle.search.proofs.Equity.{sized_held}
 use Rattle.search.proofs.Moves.{sizes_refused, naive_beyond, rest_ready, naive_moved}
-use Rattle.search.specs.Answers.{Played}
-use Rattle.search.specs.declared.calls.Move.{Move}
-use Rattle.search.specs.declared.calls.Move.TheVariants.{Word, Exchange}
-use Rattle.search.proofs.calls.naive_best_equity.Goals.{After-above_leave, After-best_first-found, Else-refusal-ne0, Then-best-lt2147483647}
+use Rattle.search.proofs.calls.naive_best_equity.Goals.{In_ok-sizes, After-above_leave, In-Some}
 use Rattle.search.proofs.calls.naive_best_equity.Goals as goal
 
-pub returns-then-refusal-ne0 : goal.returns-then-refusal-ne0
-returns-then-refusal-ne0 c =
-    let a = c.args in
-    sizes_refused a.lat.n a.lat.r a.sheet.now a.leave.now a.tally.now a.kept.now c.naive_sizes-refusal.result c.naive_sizes-refusal.ensures c.if-refusal-ne0.true
+pub returns-in_err-sizes : goal.returns-in_err-sizes
+returns-in_err-sizes c =
+    let p = err_from_is_err_and c.from_residual.result c.from_residual.ensures.1 in
+    sizes_refused _ _ _ _ _ _ _ (p.1 ∙ ap Err p.2) c.in_err-sizes.ensures.number
 
 -- after the sizes are accepted
-sizes : (c : goal.Else-refusal-ne0) → naive_sizes c.args.lat.n c.args.lat.r (length c.args.sheet.now) (length c.args.leave.now) c.args.tally.now (length c.args.kept.now) ≡ 0
-sizes c = sym c.naive_sizes-refusal.ensures ∙ c.if-refusal-ne0.false
+none : (c : goal.In_ok-sizes) → naive_sizes c.args.lat.n c.args.lat.r (length c.args.sheet.now) (length c.args.leave.now) c.args.tally.now (length c.args.kept.now) ≡ 0
+none c = sym c.in_ok-sizes.ensures.number
 
-accepted : (c : goal.Else-refusal-ne0) → Sized c.args.lat.n c.args.lat.r (length c.args.sheet.now) (length c.args.leave.now) c.args.tally.now × (length c.args.kept.now ≡ c.args.lat.n)
-accepted c =
-    let a = c.args in
-    naive_sized a.lat.n a.lat.r (length a.sheet.now) (length a.leave.now) a.tally.now (length a.kept.now) (sizes c)
+accepted : (c : goal.In_ok-sizes) → Sized c.args.lat.n c.args.lat.r (length c.args.sheet.now) (length c.args.leave.now) c.args.tally.now × (length c.args.kept.now ≡ c.args.lat.n)
+accepted c = naive_sized _ _ _ _ _ _ (none c)
 
-pub best_first-found-requires : goal.best_first-found-requires
-best_first-found-requires c =
-    let a = c.args in
-    sized_held a.sheet.now a.leave.now a.tally.now (accepted c).0
+pub best_first-requires : goal.best_first-requires
+best_first-requires c = sized_held _ _ _ (accepted c).0
 
 pub write_kept-requires : goal.write_kept-requires
-write_kept-requires c = (accepted (goal.at.write_kept-requires c).Else-refusal-ne0).1 ∙ sym (accepted (goal.at.write_kept-requires c).Else-refusal-ne0).0.letters
+write_kept-requires c =
+    let s = accepted (goal.at.write_kept-requires c).In_ok-sizes in
+    s.1 ∙ sym s.0.letters
 
 -- the value that is found, as it is read
-same : (c : goal.After-best_first-found) → to_z w32 (of_z w32 c.best_first-found.result.value) ≡ c.best_first-found.result.value
-same c = to_z-of_z w32 c.best_first-found.result.value (search rules)
-
--- and where it is below the value that stands for an entry beyond
-below : (c : goal.Then-best-lt2147483647) → c.best_first-found.result.value <ℤ pos 2147483647
-below c = subst (λ (x : ℤ). x <ℤ pos 2147483647) (same (goal.at.Then-best-lt2147483647 c).After-best_first-found) (lt_z_true c.if-best-lt2147483647.true)
+same : (c : goal.In-Some) → to_z w32 (of_z w32 c.in-Some.found.value) ≡ c.in-Some.found.value
+same c = to_z-of_z w32 c.in-Some.found.value (search rules)
 
 pub above_leave-requires : goal.above_leave-requires
 above_leave-requires c =
-    let a = c.args in
-    rest_ready a.lat.n a.lat.r a.sheet.now a.leave.now a.tally.now a.kept.now (sizes (goal.at.above_leave-requires c).Else-refusal-ne0) c.best_first-found.ensures (below (goal.at.above_leave-requires c).Then-best-lt2147483647) c.write_kept.ensures
+    rw c.in_ok-sizes.ensures.sizes.1
+    (rest_ready _ _ _ _ _ _ (none (goal.at.above_leave-requires c).In_ok-sizes) c.in-Some.ensures c.write_kept.ensures)
 
 -- the answer, by whether the best is above what is kept
-moved : (c : goal.After-above_leave) {b : Move} → b ≡ cond c.above_leave.result (Word c.best_first-found.result.value) (Exchange c.best_first-found.result.value)
-    → Played c.args.lat.n c.args.lat.r c.args.sheet.now c.args.leave.now c.args.tally.now c.args.kept.now b c.write_kept.new.kept
-moved c e =
-    let a = c.args in
-    let v = c.best_first-found.result.value in
-    naive_moved a.lat.n a.lat.r a.sheet.now a.leave.now a.tally.now a.kept.now (sizes (goal.at.After-above_leave c).Else-refusal-ne0) c.best_first-found.ensures (below (goal.at.After-above_leave c).Then-best-lt2147483647) c.write_kept.ensures
-    (e ∙ ap (λ (x : Bool). cond x (Word v) (Exchange v)) (rw (same (goal.at.After-above_leave c).After-best_first-found) at c.above_leave.ensures))
+above : (c : goal.After-above_leave) → Played c.args.lat.n c.args.lat.r c.args.sheet.now c.args.leave.now c.args.tally.now c.args.kept.now (Ok (record { best = c.in-Some.found.value; kind = cond c.above_leave.result Word Exchange })) c.write_kept.new.kept
+above c =
+    naive_moved _ _ _ _ _ _ (none (goal.at.After-above_leave c).In_ok-sizes) c.in-Some.ensures c.write_kept.ensures (rw (same (goal.at.After-above_leave c).In-Some) at c.above_leave.ensures) refl
 
 pub returns-then-above_leave : goal.returns-then-above_leave
-returns-then-above_leave c = moved (goal.at.returns-then-above_leave c).After-above_leave (rw c.if-above_leave.true (ap Word (same (goal.at.returns-then-above_leave c).After-best_first-found)))
+returns-then-above_leave c =
+    rw (same (goal.at.returns-then-above_leave c).In-Some) (rw c.if-above_leave.true at (above (goal.at.returns-then-above_leave c).After-above_leave))
 
 pub returns-else-above_leave : goal.returns-else-above_leave
-returns-else-above_leave c = moved (goal.at.returns-else-above_leave c).After-above_leave (rw c.if-above_leave.false (ap Exchange (same (goal.at.returns-else-above_leave c).After-best_first-found)))
+returns-else-above_leave c =
+    rw (same (goal.at.returns-else-above_leave c).In-Some) (rw c.if-above_leave.false at (above (goal.at.returns-else-above_leave c).After-above_leave))
 
-pub returns-else-best-lt2147483647 : goal.returns-else-best-lt2147483647
-returns-else-best-lt2147483647 c =
-    let a = c.args in
-    let h : pos 2147483647 ≤ℤ c.best_first-found.result.value = subst (λ (x : ℤ). pos 2147483647 ≤ℤ x) (same (goal.at.returns-else-best-lt2147483647 c).After-best_first-found) (lt_z_false c.if-best-lt2147483647.false) in
-    naive_beyond a.lat.n a.lat.r a.sheet.now a.leave.now a.tally.now a.kept.now (sizes (goal.at.returns-else-best-lt2147483647 c).Else-refusal-ne0) c.best_first-found.ensures h
+pub returns-in-None : goal.returns-in-None
+returns-in-None c = naive_beyond _ _ _ _ _ _ (none (goal.at.returns-in-None c).In_ok-sizes) c.in-None.ensures

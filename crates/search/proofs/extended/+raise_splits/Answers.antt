@@ -1,81 +1,105 @@
--- The proof of the cycle of calls {raise_splits}: from the last letter that is there. The measure is the number of letters left.
--- Assumes nothing.
-use mathlib.Core.Path.{◌≡◌, sym, ◌∙◌}
-use Prim.Native.Nat.{ℕ, ◌+◌, ◌-◌, ◌≤◌}
-use native.Mathlib.Omega.{arith}
-use borrow.Author.Rules.{rules}
-use lib.ListN.{length, take}
-use Rattle.search.specs.Counts.{at_most}
-use Rattle.search.specs.Walk.{room_played, room_kept}
-use Rattle.runs.specs.Runs.{present, ones_none}
+use Rattle.std.proofs.Common.{◌≡◌, ◌-◌, ◌∙◌, ℕ, length, take, refl, arith, rules}
+use Rattle.runs.specs.Runs.{present}
+use Rattle.search.specs.Walk.{part_played, part_kept}
 use Rattle.search.specs.Runs.{end_ready}
 use Rattle.search.specs.Raised.{RunReady, raised_more, raised_up, raised_end, run_down, run_next, run_turn, run_done}
-use Rattle.search.proofs.extended.+raise_splits.Goals.{After-next_run-last, In-loop-c, Then-word-eq0}
+use Rattle.search.proofs.extended.+raise_splits.Goals.{In-Some, Then-is_empty}
 use Rattle.search.proofs.extended.+raise_splits.Goals as goal
 
+-- no letter is there: one split is left
+pub raise_worths-requires-clause-whole : goal.raise_worths-requires-clause-whole
+raise_worths-requires-clause-whole t c = end_ready _ _ _ _ _ _ _ c.requires.last.letters c.in-None.ensures c.requires.last
+
+pub returns-in-None : goal.returns-in-None
+returns-in-None t c = raised_end _ _ _ _ _ _ _ c.requires.last.letters c.in-None.ensures c.raise_worths.ensures
+
 -- what the walk is given, from the last letter that is there
-ready : (t : ℕ) (c : goal.After-next_run-last t)
-    → RunReady c.args.a.now c.args.b.now c.args.tally.now c.next_run-last.result.stop c.args.s c.args.w c.args.z c.args.x (length c.args.run.now)
-ready t c = run_down c.requires.1 c.next_run-last.ensures.inside c.next_run-last.ensures.absent
+ready : (t : ℕ) (c : goal.In-Some t)
+    → RunReady c.args.a.now c.args.b.now c.args.runs.tally.now c.in-Some.last.stop c.args.part.tiles c.args.part.before c.args.other.tiles c.args.other.before (length c.args.run.now)
+ready t c = run_down c.requires c.in-Some.ensures.inside c.in-Some.ensures.absent
 
--- an empty word: no letter is there
-empty : (t : ℕ) (c : goal.Then-word-eq0 t) → present (take c.args.i c.args.tally.now) ≡ 0
-empty t c = sym c.requires.2 ∙ ones_none 64 c.args.word c.ranges.word.fits c.if-word-eq0.true
+-- the same where no other letter is there
+alone : (t : ℕ) (c : goal.Then-is_empty t) → present (take (c.in-Some.last.stop - 1) c.args.runs.tally.now) ≡ 0
+alone t c = rw (c.in-Some.ensures.same, c.in-Some.ensures.before) at (c.if-is_empty.ensures.0 refl)
 
-pub raise_worths-requires : goal.raise_worths-requires
-raise_worths-requires t c =
-    let p = c.requires in
-    (p.0, end_ready _ _ _ _ _ _ _ p.1.last.letters (empty t (goal.at.raise_worths-requires t c).Then-word-eq0) p.1.last, p.1.entries, p.1.a_bound, p.1.b_bound)
+-- a letter's tiles are few
+pub overflow_add-count-end : goal.overflow_add-count-end
+overflow_add-count-end t c =
+    omega (arith, (part_played (ready t (goal.at.overflow_add-count-end t c).In-Some).last c.in-Some.ensures.some c.in-Some.ensures.counted {x = c.in-Some.last.count} (omega arith) (omega (arith, c.well_formed))).0)
 
-pub raise_last-requires : goal.raise_last-requires
-raise_last-requires t c =
-    let run = c.next_run-last.ensures in
-    (c.requires.0, ready t (goal.at.raise_last-requires t c).After-next_run-last, run.some, sym run.before ∙ ones_none 64 c.next_run-last.result.rest (search rules) c.if-rest-eq0.true)
+pub overflow_add-count-end-in-Some : goal.overflow_add-count-end-in-Some
+overflow_add-count-end-in-Some t c =
+    omega (arith, (part_played (ready t (goal.at.overflow_add-count-end-in-Some t c).In-Some).last c.in-Some.ensures.some c.in-Some.ensures.counted {x = c.in-Some.last.count} (omega arith) (omega (arith, c.well_formed))).0)
 
-pub returns-then-rest-eq0 : goal.returns-then-rest-eq0
-returns-then-rest-eq0 t c =
-    let run = c.next_run-last.ensures in
-    raised_up _ _ _ _ _ _ _ run.inside c.requires.1.last.letters run.absent c.raise_last.ensures
+pub with-p-requires-clause-tiles : goal.with-p-requires-clause-tiles
+with-p-requires-clause-tiles t c = (part_played (ready t (goal.at.with-p-requires-clause-tiles t c).In-Some).last c.in-Some.ensures.some c.in-Some.ensures.counted (omega (arith, c.loop-count-test.true)) (omega (arith, c.well_formed))).0
 
--- room for what a turn gives to a's side, and to b's
-first : (t : ℕ) (c : goal.In-loop-c t)
-    → (c.args.s + c.loop-c.c ≤ 15) × (at_most (length c.args.tally.now - c.next_run-last.result.stop) (c.args.s + c.loop-c.c) ≤ length c.args.a.now)
-first t c = room_played (ready t (goal.at.In-loop-c t c).After-next_run-last).last c.next_run-last.ensures.some c.wide-count.ensures (omega (arith, c.loop-c-test.true))
+pub with-p-requires-clause-fits : goal.with-p-requires-clause-fits
+with-p-requires-clause-fits t c = omega (arith, (part_played (ready t (goal.at.with-p-requires-clause-fits t c).In-Some).last c.in-Some.ensures.some c.in-Some.ensures.counted {x = c.loop-count.count} (omega (arith, c.loop-count-test.true)) (omega (arith, c.well_formed))).1)
 
-other : (t : ℕ) (c : goal.In-loop-c t)
-    → (c.args.z + (c.wide-count.result - c.loop-c.c) ≤ 15) × (at_most (length c.args.tally.now - c.next_run-last.result.stop) (c.args.z + (c.wide-count.result - c.loop-c.c)) ≤ length c.args.b.now)
-other t c = room_kept (ready t (goal.at.In-loop-c t c).After-next_run-last).last c.next_run-last.ensures.some c.wide-count.ensures (omega (arith, c.loop-c-test.true))
+pub with-q-requires-clause-tiles : goal.with-q-requires-clause-tiles
+with-q-requires-clause-tiles t c = (part_kept (ready t (goal.at.with-q-requires-clause-tiles t c).In-Some).last c.in-Some.ensures.some c.in-Some.ensures.counted (omega (arith, c.loop-count-test.true)) (omega (arith, c.well_formed))).0
 
-pub added-v-requires : goal.added-v-requires
-added-v-requires t c =
-    let g = (ready t (goal.at.added-v-requires t c).After-next_run-last).last in
-    (c.requires.0, omega (arith, g.few), (first t c).0, omega (arith, g.played), omega (arith, (first t c).1, c.well_formed))
+pub with-q-requires-clause-fits : goal.with-q-requires-clause-fits
+with-q-requires-clause-fits t c = omega (arith, (part_kept (ready t (goal.at.with-q-requires-clause-fits t c).In-Some).last c.in-Some.ensures.some c.in-Some.ensures.counted {x = c.loop-count.count} (omega (arith, c.loop-count-test.true)) (omega (arith, c.well_formed))).1)
 
-pub added-y-requires : goal.added-y-requires
-added-y-requires t c =
-    let g = (ready t (goal.at.added-y-requires t c).After-next_run-last).last in
-    (c.requires.0, omega (arith, g.few), (other t (goal.at.added-y-requires t c).In-loop-c).0, g.kept, omega (arith, (other t (goal.at.added-y-requires t c).In-loop-c).1, c.well_formed))
+pub raise_worths-requires-in-loop-count-clause-whole : goal.raise_worths-requires-in-loop-count-clause-whole
+raise_worths-requires-in-loop-count-clause-whole t c =
+    let run = c.in-Some.ensures in
+    let next = run_next (ready t (goal.at.raise_worths-requires-in-loop-count-clause-whole t c).In-Some) run.some run.counted (omega (arith, c.loop-count-test.true)) c.with-p.ensures.before c.with-q.ensures.before c.loop-count.invariant.1 in
+    rw (c.with-p.ensures.tiles, c.with-q.ensures.tiles)
+    (end_ready _ _ _ _ _ _ _ next.last.letters (alone t (goal.at.raise_worths-requires-in-loop-count-clause-whole t c).Then-is_empty) next.last)
+
+pub loop-count-preserved : goal.loop-count-preserved
+loop-count-preserved t c =
+    let l = c.loop-count in
+    let run = c.in-Some.ensures in
+    let r = ready t (goal.at.loop-count-preserved t c).In-Some in
+    let below = c.loop-count-test.true in
+    let v = rw (c.with-p.ensures.tiles, c.with-q.ensures.tiles) at c.raise_worths-in-loop-count.ensures in
+    let next = run_next r run.some run.counted (omega (arith, below)) c.with-p.ensures.before c.with-q.ensures.before l.invariant.1 in
+    let turn = run_turn r run.some run.counted (omega (arith, below)) c.with-p.ensures.before c.with-q.ensures.before l.invariant.1 (raised_end _ _ _ _ _ _ _ next.last.letters (alone t (goal.at.loop-count-preserved t c).Then-is_empty) v) in
+    (omega arith, v.size ∙ l.invariant.1, raised_more l.invariant.2 turn)
+
+pub returns-then-is_empty : goal.returns-then-is_empty
+returns-then-is_empty t c =
+    let run = c.in-Some.ensures in
+    raised_up _ _ _ _ _ _ _ run.inside c.requires.last.letters run.absent
+    (run_done (ready t (goal.at.returns-then-is_empty t c).In-Some) run.some run.counted c.loop-count.count (omega arith) (search rules) c.loop-count.invariant.2)
+
+-- the same for a turn that splits the letters before
+
+pub with-p-requires-in-loop-count-2-clause-tiles : goal.with-p-requires-in-loop-count-2-clause-tiles
+with-p-requires-in-loop-count-2-clause-tiles t c = (part_played (ready t (goal.at.with-p-requires-in-loop-count-2-clause-tiles t c).In-Some).last c.in-Some.ensures.some c.in-Some.ensures.counted (omega (arith, c.loop-count-2-test.true)) (omega (arith, c.well_formed))).0
+
+pub with-p-requires-in-loop-count-2-clause-fits : goal.with-p-requires-in-loop-count-2-clause-fits
+with-p-requires-in-loop-count-2-clause-fits t c = omega (arith, (part_played (ready t (goal.at.with-p-requires-in-loop-count-2-clause-fits t c).In-Some).last c.in-Some.ensures.some c.in-Some.ensures.counted {x = c.loop-count-2.count} (omega (arith, c.loop-count-2-test.true)) (omega (arith, c.well_formed))).1)
+
+pub with-q-requires-in-loop-count-2-clause-tiles : goal.with-q-requires-in-loop-count-2-clause-tiles
+with-q-requires-in-loop-count-2-clause-tiles t c = (part_kept (ready t (goal.at.with-q-requires-in-loop-count-2-clause-tiles t c).In-Some).last c.in-Some.ensures.some c.in-Some.ensures.counted (omega (arith, c.loop-count-2-test.true)) (omega (arith, c.well_formed))).0
+
+pub with-q-requires-in-loop-count-2-clause-fits : goal.with-q-requires-in-loop-count-2-clause-fits
+with-q-requires-in-loop-count-2-clause-fits t c = omega (arith, (part_kept (ready t (goal.at.with-q-requires-in-loop-count-2-clause-fits t c).In-Some).last c.in-Some.ensures.some c.in-Some.ensures.counted {x = c.loop-count-2.count} (omega (arith, c.loop-count-2-test.true)) (omega (arith, c.well_formed))).1)
 
 pub raise_splits-requires : goal.raise_splits-requires
 raise_splits-requires t c =
-    let run = c.next_run-last.ensures in
-    let some = run.some in (
-      omega (arith, c.decreases, run.inside),
-      (c.requires.0, run_next (ready t (goal.at.raise_splits-requires t c).After-next_run-last) some c.wide-count.ensures (omega (arith, c.loop-c-test.true)) c.added-v.ensures c.added-y.ensures c.loop-c.invariant.1, run.before),
+    let run = c.in-Some.ensures in
+    let some = run.some in
+    let next = run_next (ready t (goal.at.raise_splits-requires t c).In-Some) some run.counted (omega (arith, c.loop-count-2-test.true)) c.with-p-in-loop-count-2.ensures.before c.with-q-in-loop-count-2.ensures.before c.loop-count-2.invariant.1 in (
+      omega (arith, c.decreases, run.inside, run.before),
+      rw (run.same, run.before, c.with-p-in-loop-count-2.ensures.tiles, c.with-q-in-loop-count-2.ensures.tiles) next,
     )
 
-pub loop-c-preserved : goal.loop-c-preserved
-loop-c-preserved t c =
-    let l = c.loop-c in
-    let v = c.raise_splits.ensures in
-    let turn = run_turn (ready t (goal.at.loop-c-preserved t c).After-next_run-last) c.next_run-last.ensures.some c.wide-count.ensures (omega (arith, c.loop-c-test.true)) c.added-v.ensures c.added-y.ensures l.invariant.1 v in
+pub loop-count-2-preserved : goal.loop-count-2-preserved
+loop-count-2-preserved t c =
+    let l = c.loop-count-2 in
+    let run = c.in-Some.ensures in
+    let v = rw (run.same, run.before, c.with-p-in-loop-count-2.ensures.tiles, c.with-q-in-loop-count-2.ensures.tiles) at c.raise_splits.ensures in
+    let turn = run_turn (ready t (goal.at.loop-count-2-preserved t c).In-Some) run.some run.counted (omega (arith, c.loop-count-2-test.true)) c.with-p-in-loop-count-2.ensures.before c.with-q-in-loop-count-2.ensures.before l.invariant.1 v in
     (omega arith, v.size ∙ l.invariant.1, raised_more l.invariant.2 turn)
 
-pub returns-then-word-eq0 : goal.returns-then-word-eq0
-returns-then-word-eq0 t c = raised_end _ _ _ _ _ _ _ c.requires.1.last.letters (empty t (goal.at.returns-then-word-eq0 t c).Then-word-eq0) c.raise_worths.ensures
-
-pub returns-after-loop-c : goal.returns-after-loop-c
-returns-after-loop-c t c =
-    let run = c.next_run-last.ensures in
-    raised_up _ _ _ _ _ _ _ run.inside c.requires.1.last.letters run.absent
-    (run_done (ready t (goal.at.returns-after-loop-c t c).After-next_run-last) run.some c.wide-count.ensures c.loop-c.c (omega arith) (search rules) c.loop-c.invariant.2)
+pub returns-after-loop-count-2 : goal.returns-after-loop-count-2
+returns-after-loop-count-2 t c =
+    let run = c.in-Some.ensures in
+    raised_up _ _ _ _ _ _ _ run.inside c.requires.last.letters run.absent
+    (run_done (ready t (goal.at.returns-after-loop-count-2 t c).In-Some) run.some run.counted c.loop-count-2.count (omega arith) (search rules) c.loop-count-2.invariant.2)

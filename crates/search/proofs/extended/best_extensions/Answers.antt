@@ -3,4 +3,4 @@ use Rattle.search.specs.Extended.{extended_all}
 use Rattle.search.proofs.extended.best_extensions.Goals as goal
 
 pub returns : goal.returns
-returns c = extended_all c.requires.1 c.clear.ensures c.raise_extensions.ensures
+returns c = extended_all c.requires c.clear.ensures c.raise_extensions.ensures

@@ -25,7 +25,7 @@ raised-requires c =
     let x = at_ℤ c.args.a.now (c.args.at + c.loop-i.i) in
     let y = at_ℤ c.args.b.now c.args.to in
     rw (back x c.raised-arg-1.given, back y c.x-1.given)
-    (record { left = bounded_small c.args.a.now c.requires.2 _; right = bounded_small c.args.b.now c.requires.3 _ })
+    (record { left = bounded_small c.args.a.now c.requires.a_bound _; right = bounded_small c.args.b.now c.requires.b_bound _ })
 
 pub loop-i-preserved : goal.loop-i-preserved
 loop-i-preserved c =

@@ -13,43 +13,44 @@ use Rattle.search.proofs.racks.fill_racks.Goals as goal
 
 pub overflow_sub-r : goal.overflow_sub-r
 overflow_sub-r c =
-    omega (arith, (facts (length c.args.tally.now) c.args.r c.requires.1.sizes).some_tile)
+    omega (arith, (facts (length c.args.tally.now) c.args.r c.requires.sizes).some_tile)
 
 pub size_start-from-requires : goal.size_start-from-requires
 size_start-from-requires c =
-    let f = facts (length c.args.tally.now) c.args.r c.requires.1.sizes in
-    (c.requires.0, f.letters, omega (arith, f.tiles))
+    let f = facts (length c.args.tally.now) c.args.r c.requires.sizes in
+    record { letters = f.letters; tiles = omega (arith, f.tiles) }
 
 pub size_start-end-requires : goal.size_start-end-requires
 size_start-end-requires c =
-    let f = facts (length c.args.tally.now) c.args.r c.requires.1.sizes in
-    (c.requires.0, f.letters, omega (arith, f.tiles))
+    let f = facts (length c.args.tally.now) c.args.r c.requires.sizes in
+    record { letters = f.letters; tiles = omega (arith, f.tiles) }
 
 pub extend_at-e-requires : goal.extend_at-e-requires
 extend_at-e-requires c =
     let from = c.size_start-from.ensures in
-    (c.requires.1.sizes, omega (arith, from), omega (arith, from, some_leave (length c.args.tally.now) c.args.r c.requires.1.sizes))
+    record { served = c.requires.sizes; from = omega (arith, from); below = omega (arith, from, some_leave (length c.args.tally.now) c.args.r c.requires.sizes) }
 
 pub loop-rank-init : goal.loop-rank-init
 loop-rank-init c =
     let a = c.args in
     let n = length a.tally.now in
     let from = c.size_start-from.ensures in
-    (omega (arith, from, some_leave (length c.args.tally.now) c.args.r c.requires.1.sizes), refl, subst (λ (k : ℕ). Filled a.sheet.now a.leave.now (λ i. true) n a.r k a.out.now a.out.now) (sym from) (filled_none _), reached_first c.extend_at-e.ensures)
+    (omega (arith, from, some_leave (length c.args.tally.now) c.args.r c.requires.sizes), refl, subst (λ (k : ℕ). Filled a.sheet.now a.leave.now (λ i. true) n a.r k a.out.now a.out.now) (sym from) (filled_none _), reached_first (c.extend_at-e.ensures.leave, c.extend_at-e.ensures.word))
 
 pub write_extensions-requires : goal.write_extensions-requires
 write_extensions-requires c =
     let l = c.loop-rank.invariant in
     let end = c.size_start-end.ensures in
     let at = l.3.here (omega (arith, c.loop-rank-test.true, end)) in
-    let d = subst (λ (k : ℕ). RacksReady (length c.args.tally.now) c.args.r c.args.sheet.now c.args.leave.now k) (sym l.1) c.requires.1 in
-    (c.requires.0, leave_ready d at, leave_room d at)
+    let d = subst (λ (k : ℕ). RacksReady (length c.args.tally.now) c.args.r c.args.sheet.now c.args.leave.now k) (sym l.1) c.requires in
+    record { extending = leave_ready d at; room = leave_room d at }
 
 pub next_leave-e-requires : goal.next_leave-e-requires
 next_leave-e-requires c =
     let l = c.loop-rank.invariant in
     let end = c.size_start-end.ensures in
-    reached_walks l.3 (omega (arith, c.loop-rank-test.true, end)) c.requires.1.sizes
+    let at = reached_walks l.3 (omega (arith, c.loop-rank-test.true, end)) c.requires.sizes in
+    record { walking = at.0; word = at.1 }
 
 pub loop-rank-preserved : goal.loop-rank-preserved
 loop-rank-preserved c =
@@ -58,4 +59,4 @@ loop-rank-preserved c =
     let taken : c.loop-rank.rank < start (length c.args.tally.now) c.args.r =
     omega (arith, c.loop-rank-test.true, end) in
     let v = c.write_extensions.ensures in
-    (omega (arith, taken), v.size ∙ l.1, filled_leave (facts _ c.args.r c.requires.1.sizes).some_letter l.2 (l.3.here taken) v, reached_next l.3 taken c.next_leave-e.ensures)
+    (omega (arith, taken), v.size ∙ l.1, filled_leave (facts _ c.args.r c.requires.sizes).some_letter l.2 (l.3.here taken) v, reached_next l.3 taken (c.next_leave-e.ensures.onward, c.next_leave-e.ensures.word))

@@ -16,8 +16,8 @@ entries_are : (c : goal.Start) → entries c ≡ suc (length c.args.tally.now - 
 entries_are c = omega arith
 
 pub overflow_sub-end : goal.overflow_sub-end
-overflow_sub-end c = stop_inside c.requires.1
+overflow_sub-end c = stop_inside c.requires.extending
 
 pub returns : goal.returns
 returns c =
-    spanned_put c.args.first (entries (goal.at.returns c).Start) c.args.out.now (omega (arith, entries_are (goal.at.returns c).Start, c.requires.1.stops)) (omega (arith, entries_are (goal.at.returns c).Start, c.requires.2)) c.best_extensions.ensures
+    spanned_put c.args.first (entries (goal.at.returns c).Start) c.args.out.now (omega (arith, entries_are (goal.at.returns c).Start, c.requires.extending.stops)) (omega (arith, entries_are (goal.at.returns c).Start, c.requires.room)) c.best_extensions.ensures

@@ -4,4 +4,4 @@ use Rattle.sums.proofs.Spreading.{part_done}
 use Rattle.sums.proofs.spread.add_part.Goals as goal
 
 pub returns : goal.returns
-returns c = part_done _ _ _ _ _ (omega (arith, c.requires.0)) c.add_one.ensures c.add_run.ensures
+returns c = part_done _ _ _ _ _ (omega (arith, c.requires.numbers)) c.add_one.ensures c.add_run.ensures

@@ -12,10 +12,10 @@ loop-j-init c = (omega arith, refl, run_none _ _ _)
 pub loop-j-preserved : goal.loop-j-preserved
 loop-j-preserved c =
     let l = c.loop-j.invariant in
-    let e = run_more _ _ _ _ (omega (arith, c.fitting-stop.ensures, c.requires.0)) l.2 in
+    let e = run_more _ _ _ _ (omega (arith, c.min-stop.ensures, c.saturating_sub.ensures, c.requires.numbers)) l.2 in
     (omega arith, ap length e ∙ length_add_each _ _ _, e)
 
 pub returns : goal.returns
 returns c =
     let l = c.loop-j.invariant in
-    run_done _ _ _ (omega (arith, c.fitting-stop.ensures)) (λ h. omega (arith, c.fitting-stop.ensures)) l.2
+    run_done _ _ _ (omega (arith, c.min-stop.ensures, c.saturating_sub.ensures)) (λ h. omega (arith, c.min-stop.ensures, c.saturating_sub.ensures)) l.2

@@ -1,6 +1,5 @@
--- `sums::spread::spread` meets its contract. The loop's invariant: the counts so far of the last letter are done, in both tables. Assumes nothing.
-use Prim.Native.Nat.{◌-◌}
-use native.Mathlib.Omega.{arith}
+-- the counts so far of the last letter are done, in both tables
+use Rattle.std.proofs.Common.{◌-◌, arith}
 use Rattle.sums.proofs.Spreading.{turned_none, turned_more, extended_done}
 use Rattle.sums.proofs.spread.spread.Goals as goal
 
@@ -10,12 +9,15 @@ loop-c-init c = (omega arith, turned_none _ _ _, turned_none _ _ _)
 pub loop-c-preserved : goal.loop-c-preserved
 loop-c-preserved c =
     let l = c.loop-c.invariant in
-    let v = c.spread_count.ensures in
-    (omega arith, turned_more l.1 v.0, turned_more l.2 v.1)
+    let v = rw (c.first-runs.ensures.tally, c.first-runs.ensures.stop) at c.spread_count.ensures in
+    (omega arith, turned_more l.1 v.num, turned_more l.2 v.den)
 
 pub returns : goal.returns
 returns c =
     let l = c.loop-c.invariant in
     let a = c.args in
     let k = c.wide-count.ensures in
-    (extended_done a.tally.now (a.stop - 1) a.values.now a.num.now k l.1 (omega arith), extended_done a.tally.now (a.stop - 1) a.ways.now a.den.now k l.2 (omega arith))
+    record {
+      num = extended_done a.tally.now (a.stop - 1) a.values.now a.num.now k l.1 (omega arith);
+      den = extended_done a.tally.now (a.stop - 1) a.ways.now a.den.now k l.2 (omega arith);
+    }

@@ -1,26 +1,28 @@
--- `sums::spread::spread_count` meets its contract. Assumes nothing.
-use Prim.Native.Nat.{◌-◌}
-use native.Mathlib.Omega.{arith}
-use lib.ListN.{length}
-use Rattle.sums.proofs.Spreading.{last_tiles, ready_last, reach_le}
+use Rattle.std.proofs.Common.{◌+◌, ◌≤◌, refl, arith}
+use Rattle.sums.proofs.Spreading.{last_tiles, ready_last}
+use Rattle.sums.proofs.spread.spread_count.Goals.{Start}
 use Rattle.sums.proofs.spread.spread_count.Goals as goal
 
-pub rank_step-w-requires : goal.rank_step-w-requires
-rank_step-w-requires c =
-    let p = c.requires in
-    let g = last_tiles p.1 p.4 p.5 in
-    (p.0, omega (arith, p.1.few), omega (arith, g), omega arith)
+-- the last letter's tiles and one more are few
+few : (c : goal.Start) → 1 + c.args.c ≤ 15
+few c = last_tiles c.requires.spreads refl c.requires.inside
 
-pub rank_step-w1-requires : goal.rank_step-w1-requires
-rank_step-w1-requires c =
-    let p = c.requires in
-    let g = last_tiles p.1 p.4 p.5 in
-    (p.0, omega (arith, p.1.few), omega (arith, g), omega arith)
+pub rank_step-requires-clause-tiles : goal.rank_step-requires-clause-tiles
+rank_step-requires-clause-tiles c = omega (arith, few (goal.at.rank_step-requires-clause-tiles c).Start)
 
-pub spread_from-requires : goal.spread_from-requires
-spread_from-requires c =
+pub overflow_add-rack : goal.overflow_add-rack
+overflow_add-rack c = omega (arith, few (goal.at.overflow_add-rack c).Start)
+
+pub overflow_add-c : goal.overflow_add-c
+overflow_add-c c = omega (arith, few (goal.at.overflow_add-c c).Start)
+
+pub rank_step-requires-2-clause-tiles : goal.rank_step-requires-2-clause-tiles
+rank_step-requires-2-clause-tiles c = omega (arith, few (goal.at.rank_step-requires-2-clause-tiles c).Start)
+
+pub add_at_parts-requires : goal.add_at_parts-requires
+add_at_parts-requires c =
     let p = c.requires in
-    let racks = p.1.racks in
-    let len = c.racks_beyond-len.ensures in
-    let most = reach_le (length c.args.tally.now - c.args.i - 1) c.args.count c.args.c in
-    (p.0, ready_last p.1 p.4 p.5 (omega arith) (omega arith) c.rank_step-w.ensures, ready_last p.1 p.4 p.5 (omega arith) (omega arith) c.rank_step-w1.ensures, p.3, omega arith, omega (arith, p.2))
+    record {
+      part = ready_last p.spreads refl p.inside (omega arith) (omega arith) c.rank_step.ensures;
+      rack = ready_last p.spreads refl p.inside (omega arith) (omega arith) c.rank_step-2.ensures;
+    }

@@ -6,35 +6,35 @@ use Rattle.table_sums.proofs.passes.+gain_from.Goals as goal
 
 pub overflow_add-to : goal.overflow_add-to
 overflow_add-to t c =
-    let f = run_fits c.requires.1 c.if-k-t.true c.choose-size.ensures (ap (λ (x : ℕ). c.args.v + x) c.rank_step.ensures) in
+    let f = run_fits c.requires c.if-k-t.true c.choose-size.ensures (ap (λ (x : ℕ). c.args.v + x) c.rank_step.ensures) in
     omega (arith, f.1, c.well_formed)
 
 pub gain_run-requires : goal.gain_run-requires
-gain_run-requires t c = run_fits c.requires.1 c.if-k-t.true c.choose-size.ensures (ap (λ (x : ℕ). c.args.v + x) c.rank_step.ensures)
+gain_run-requires t c = let f = run_fits c.requires c.if-k-t.true c.choose-size.ensures (ap (λ (x : ℕ). c.args.v + x) c.rank_step.ensures) in record { apart = f.0; room = f.1 }
 
 pub overflow_add-a : goal.overflow_add-a
 overflow_add-a t c =
-    let g = c.requires.1 in
+    let g = c.requires in
     let few : c.loop-c.c ≤ c.args.rem = omega arith in
     omega (arith, step_room (c.args.n - c.args.k - 1) c.args.rem c.loop-c.c few, c.rank_step-in-loop-c.ensures, apart_there g, room_there g, c.well_formed)
 
 pub overflow_add-b : goal.overflow_add-b
 overflow_add-b t c =
-    let f = next_small c.requires.1 c.if-k-t.false c.loop-c-test.true (ap (λ (x : ℕ). c.args.w + x) c.rank_step-in-loop-c.ensures) (ap (λ (x : ℕ). c.args.v + x) c.rank_step-in-loop-c-2.ensures) in
+    let f = next_small c.requires c.if-k-t.false c.loop-c-test.true (ap (λ (x : ℕ). c.args.w + x) c.rank_step-in-loop-c.ensures) (ap (λ (x : ℕ). c.args.v + x) c.rank_step-in-loop-c-2.ensures) in
     omega (arith, f.1, c.well_formed)
 
 pub gain_from-requires : goal.gain_from-requires
 gain_from-requires t c =
-    let g = c.requires.1 in
+    let g = c.requires in
     let f = next_fits g c.if-k-t.false c.loop-c-test.true (ap (λ (x : ℕ). c.args.w + x) c.rank_step-in-loop-c.ensures) (ap (λ (x : ℕ). c.args.v + x) c.rank_step-in-loop-c-2.ensures) in
-    (omega (arith, c.decreases, g.from, c.if-k-t.false), (c.requires.0, rw c.loop-c.invariant.1.long f))
+    (omega (arith, c.decreases, g.from, c.if-k-t.false), rw c.loop-c.invariant.1.long f)
 
 pub loop-c-preserved : goal.loop-c-preserved
 loop-c-preserved t c =
-    (omega arith, next_turn c.requires.1 c.if-k-t.false c.loop-c-test.true (ap (λ (x : ℕ). c.args.w + x) c.rank_step-in-loop-c.ensures) (ap (λ (x : ℕ). c.args.v + x) c.rank_step-in-loop-c-2.ensures) c.loop-c.invariant.1 c.gain_from.ensures)
+    (omega arith, next_turn c.requires c.if-k-t.false c.loop-c-test.true (ap (λ (x : ℕ). c.args.w + x) c.rank_step-in-loop-c.ensures) (ap (λ (x : ℕ). c.args.v + x) c.rank_step-in-loop-c-2.ensures) c.loop-c.invariant.1 c.gain_from.ensures)
 
 pub returns-then-k-t : goal.returns-then-k-t
-returns-then-k-t t c = run_done c.requires.1 c.if-k-t.true c.choose-size.ensures (ap (λ (x : ℕ). c.args.v + x) c.rank_step.ensures) c.gain_run.ensures
+returns-then-k-t t c = run_done c.requires c.if-k-t.true c.choose-size.ensures (ap (λ (x : ℕ). c.args.v + x) c.rank_step.ensures) c.gain_run.ensures
 
 pub returns-after-loop-c : goal.returns-after-loop-c
-returns-after-loop-c t c = all_turns c.requires.1 c.if-k-t.false (omega arith) c.loop-c.invariant.1
+returns-after-loop-c t c = all_turns c.requires c.if-k-t.false (omega arith) c.loop-c.invariant.1

@@ -23,4 +23,4 @@ pub returns : goal.returns
 returns c =
     let l = c.loop-t in
     let e : l.t ≡ length c.args.unseen.now = omega arith in
-    (l.invariant.1, λ g f. folded_all f e (l.invariant.2 g f))
+    record { size = l.invariant.1; sums = λ g f. folded_all f e (l.invariant.2 g f) }

@@ -8,12 +8,12 @@ use Rattle.table_sums.proofs.passes.gain_letter.Goals as goal
 pub gain_from-requires : goal.gain_from-requires
 gain_from-requires c =
     let l = c.loop-s in
-    let less : l.s - 1 < c.args.r = omega (arith, l.invariant.0) in
-    (c.requires.0, size_gaining c.requires.2 less c.size_start-w.ensures c.size_start-v.ensures c.requires.1 (l.invariant.1.long ∙ c.requires.3))
+    let less : l.s - 1 < c.args.r = omega arith in
+    size_gaining c.requires.letter less c.size_start-w.ensures c.size_start-v.ensures c.requires.sizes (l.invariant.long ∙ c.requires.size)
 
 pub loop-s-preserved : goal.loop-s-preserved
 loop-s-preserved c =
     let l = c.loop-s in
-    let less : l.s - 1 < c.args.r = omega (arith, l.invariant.0) in
+    let less : l.s - 1 < c.args.r = omega arith in
     let e : l.s ≡ suc (l.s - 1) = omega arith in
-    (omega (arith, l.invariant.0), size_done c.requires.2 less c.size_start-w.ensures c.size_start-v.ensures (subst (λ (k : ℕ). Down c.args.n c.args.r c.args.t k c.args.xs.now l.xs) e l.invariant.1) c.gain_from.ensures)
+    size_done c.requires.letter less c.size_start-w.ensures c.size_start-v.ensures (subst (λ (k : ℕ). Down c.args.n c.args.r c.args.t k c.args.xs.now l.xs) e l.invariant) c.gain_from.ensures

@@ -1,0 +1,32 @@
+-- Pascal's rule over the table: one test that is computed over all of it, and the law that carries the test to each entry. Assumes nothing.
+use Rattle.std.proofs.Common.{◌≡◌, ℕ, zero, suc, ◌+◌, ◌*◌, ◌≤◌, Bool, true, nat_eq, get_or, refl, eqb-true, zero-add, arith}
+use Rattle.std.proofs.lemmas.Bool.{agree_below, agree_below_at}
+use Rattle.binomials.specs.Binomial.{binomial, binomial_zero, binomial_self, pascal_sum}
+use Rattle.binomials.specs.declared.table.TheConstants.{BINOMIALS}
+
+abbrev at : ℕ → ℕ → ℕ
+at p k = get_or BINOMIALS (p * 17 + k) 0
+
+-- the first row and the first column are ones, and every other entry is the sum of the one above it and the one to its left
+abbrev keeps : ℕ → ℕ → Bool
+keeps zero k = nat_eq (at zero k) 1
+keeps (suc p) zero = nat_eq (at (suc p) zero) 1
+keeps (suc p) (suc k) = nat_eq (at (suc p) (suc k)) (at p (suc k) + at (suc p) k)
+
+abbrev row_keeps : ℕ → Bool
+row_keeps p = agree_below (keeps p) (λ k. true) 17
+
+kept : agree_below row_keeps (λ p. true) 65 ≡ true
+kept = refl
+
+keeps_at : (p k : ℕ) → p ≤ 64 → k ≤ 16 → keeps p k ≡ true
+keeps_at p k h l = agree_below_at (keeps p) (λ k. true) 17 k (agree_below_at row_keeps (λ p. true) 65 p kept (omega arith)) (omega arith)
+
+-- C(k + p, p), as the contract has it, is what the rule makes
+pub entry : (p k : ℕ) → p ≤ 64 → k ≤ 16 → at p k ≡ binomial (k + p) p
+entry zero k h l = rw (eqb-true _ _ (keeps_at zero k h l), binomial_zero) refl
+entry (suc p) zero h l = rw (eqb-true _ _ (keeps_at (suc p) zero h l), zero-add, binomial_self) refl
+entry (suc p) (suc k) h l =
+    let above = entry p (suc k) (omega arith) l in
+    let left = entry (suc p) k h (omega arith) in
+    rw (eqb-true _ _ (keeps_at (suc p) (suc k) h l), above, left, pascal_sum k p) refl

@@ -1,0 +1,3 @@
+pub mod Call
+pub mod Listed
+pub mod Reading

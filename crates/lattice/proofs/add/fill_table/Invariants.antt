@@ -1,0 +1,17 @@
+-- `lattice::add::fill_table` meets its contract. The invariant: the walk stands at `rank`, the rows below are right, and the row before tells of the first letters. Assumes nothing.
+use Rattle.std.proofs.Common.{◌≡◌, ◌+◌, ◌*◌, ◌≤◌, length, take}
+use Rattle.lattice.specs.Tables.{up}
+use Rattle.lattice.specs.AddRows.{RowBefore, RowsRight}
+use Rattle.lattice.specs.AddRow.{row_top}
+use Rattle.lattice.proofs.add.fill_table.Given as goal
+
+abbrev pub invariant-loop-rank : goal.invariant-loop-rank
+invariant-loop-rank l = record {
+  letters : l.walk.n ≡ l.n;
+  tiles : l.walk.r ≡ l.r;
+  at : l.walk.rank ≡ l.rank;
+  size : length l.add ≡ length l.initial.add;
+  rows : RowsRight l.n l.r l.rank (λ j t. up l.n l.add t j);
+  before : RowBefore (row_top l.walk.n l.walk.rank (take l.walk.n l.walk.tails)) (take l.walk.n l.walk.tails) l.walk.kept l.prior l.add;
+  apart : l.prior + l.walk.kept ≤ l.rank * l.n;
+}

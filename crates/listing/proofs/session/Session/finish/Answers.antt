@@ -1,0 +1,26 @@
+-- By what the reader gives at the end.
+use Rattle.std.proofs.Common.{◌≡◌, sym, ap, ◌∙◌, Ok, Err, rules, arith}
+use Rattle.std.proofs.lemmas.Grind.{common_steps}
+use Rattle.std.proofs.lemmas.Int.{to_z-of_z}
+use mir.Syntax.{w128}
+use mir.Val.{SFits}
+use Rattle.listing.specs.Taken.{reading_as}
+use Rattle.listing.proofs.Words.{ends_none, ends_number, ends_refused, ends_malformed}
+use Rattle.listing.proofs.session.Session.finish.Goals as goal
+
+pub returns-in_err-take-in-Ok-Some : goal.returns-in_err-take-in-Ok-Some
+returns-in_err-take-in-Ok-Some c =
+    let fits : SFits w128 c.in-Ok-Some.number = search rules in
+    let same : c.from_residual.result ≡ Err c.in_err-take-in-Ok-Some.field-0.0 = grind (arith, common_steps) in
+    λ text so_far. ends_refused so_far c.end.ensures (c.in-Ok-Some.is ∙ ap Ok c.in-Ok-Some.field-0-is) (simp to_z-of_z at c.in_err-take-in-Ok-Some.ensures.err) ∙ ap reading_as (sym same)
+
+pub returns-in-Err : goal.returns-in-Err
+returns-in-Err c = λ text so_far. ends_malformed so_far c.end.ensures c.in-Err.is
+
+pub returns-in-Ok-None : goal.returns-in-Ok-None
+returns-in-Ok-None c = λ text so_far. ends_none so_far c.end.ensures (c.in-Ok-None.is ∙ ap Ok c.in-Ok-None.field-0-is) ∙ c.finish.ensures
+
+pub returns-in_ok-take-in-Ok-Some : goal.returns-in_ok-take-in-Ok-Some
+returns-in_ok-take-in-Ok-Some c =
+    let fits : SFits w128 c.in-Ok-Some.number = search rules in
+    λ text so_far. ends_number so_far c.end.ensures (c.in-Ok-Some.is ∙ ap Ok c.in-Ok-Some.field-0-is) (simp to_z-of_z at c.in_ok-take-in-Ok-Some.ensures.ok) ∙ c.finish-in-Ok-Some.ensures

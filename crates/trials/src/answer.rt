@@ -1,0 +1,51 @@
+//! The answers of the library's calls, each as a list gives it: the number of a refusal, 0 where
+//! there is none, and the values, others where the call is refused.
+use refusal::{Refusal, number};
+use search::Kept;
+use search::calls::{Kind, Play};
+use whole::UNPLAYABLE;
+
+/// The rank that stands for none.
+const NO_RANK: u32 = u32::MAX;
+
+pub fn refusal(answer: Result<(), Refusal>) -> u8 {
+    number(answer)
+}
+
+pub fn rank(answer: Result<u32, Refusal>) -> (u8, u32) {
+    (number(answer), answer.unwrap_or(NO_RANK))
+}
+
+/// A length or a start, 0 where the sizes are refused.
+pub fn size(answer: Result<u32, Refusal>) -> usize {
+    answer.unwrap_or(0) as usize
+}
+
+pub fn best(answer: Result<i32, Refusal>) -> (u8, i32) {
+    (number(answer), answer.unwrap_or(UNPLAYABLE))
+}
+
+pub fn keep(answer: Result<Option<Kept>, Refusal>) -> (u8, i32, u32) {
+    match answer {
+        Ok(Some(found)) => (0, found.value, found.rank),
+        _ => (number(answer), UNPLAYABLE, NO_RANK),
+    }
+}
+
+/// The kind comes last: 0 no move, 1 a word, 2 an exchange.
+pub fn play(answer: Result<Play, Refusal>) -> (u8, i32, u8) {
+    match answer {
+        Ok(play) => {
+            let kind = match play.kind {
+                Kind::Word => 1,
+                Kind::Exchange => 2,
+            };
+            (0, play.best, kind)
+        }
+        Err(refusal) => (u8::from(refusal), UNPLAYABLE, 0),
+    }
+}
+
+pub fn mean(answer: Result<Option<i32>, Refusal>) -> (u8, i32) {
+    (number(answer), answer.unwrap_or(None).unwrap_or(UNPLAYABLE))
+}
