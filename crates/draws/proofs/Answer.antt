@@ -1,11 +1,9 @@
 -- The totals of the walk are those of the draws, so the answer is the mean over the draws. Assumes nothing.
 use Rattle.std.proofs.Math.Path.{◌≡◌, refl, sym, ap}
-use Rattle.std.proofs.Common.{◌∙◌, add_comm, one-mul, mul-one, zero-add, le_of_eq, mul-le-mul_left, mul-le-mul_right}
-use Rattle.std.specs.Prelude.{Bool, List, [], ◌∷◌, map, ℤ, pos, nat_abs, ◌*ℤ◌, Float, length, drop}
-use Rattle.std.proofs.Math.Bool.{true, false, cond}
-use Prim.Native.Nat.{ℕ, zero, suc, ◌+◌, ◌*◌, ◌^◌, ◌≤◌, ◌<◌, min, max}
-use Rattle.std.proofs.Math.Decide.{dec_le}
-use Rattle.std.proofs.Math.Nat.{le_trans, le-max_left, le-max_right, min-eq_left, min-eq_right, min-le_left}
+use Rattle.std.proofs.Common.{◌∙◌, add_comm, one-mul, mul-one, zero-add, le_of_eq, mul-le-mul_left}
+use Rattle.std.specs.Prelude.{List, [], ◌∷◌, map, ℤ, pos, nat_abs, ◌*ℤ◌, Float, length, drop}
+use Prim.Native.Nat.{ℕ, zero, suc, ◌+◌, ◌*◌, ◌^◌, ◌≤◌, ◌<◌, max}
+use Rattle.std.proofs.Math.Nat.{le_trans, le-max_left, le-max_right}
 use native.Mathlib.Omega.{arith}
 use Rattle.std.proofs.Math.IntN.{+ℤ_idl}
 use Rattle.std.specs.Int.Signed.{mag}
@@ -20,7 +18,6 @@ use Rattle.lattice.specs.Tally.{total, lattice, tally_at, start, rank_of, start_
 use Rattle.lattice.specs.Lattice.{length_lattice}
 use Rattle.lattice.specs.Rank.{rank_at, at_fits}
 use Rattle.lattice.specs.Served.{facts}
-use Rattle.lattice.specs.Answers.{served, len_answer}
 use Rattle.hands.specs.Hands.{hands, hands_count}
 use Rattle.draws.specs.declared.walk.Totals.{Totals}
 use Rattle.std.specs.Prelude.{Ok, Err, Some, None}

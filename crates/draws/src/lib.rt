@@ -11,7 +11,7 @@ use lattice::sizes::Sizes;
 use lattice::{Lattice, start_of};
 use refusal::Refusal;
 use sums::weight::{tiles_in, weight, within_limit};
-use walk::aggregate;
+use walk::{Drawn, Tables, Totals};
 use whole::cut;
 
 pub mod walk;
@@ -25,10 +25,7 @@ fn fills(sizes: Sizes, s_ridx: usize, draw: usize) -> bool
     }
     let s = sizes.r - draw;
     let at = s_ridx as u64;
-    if at < start_of(sizes.n, s) {
-        return false;
-    }
-    at < start_of(sizes.n, s + 1)
+    start_of(sizes.n, s) <= at && at < start_of(sizes.n, s + 1)
 }
 
 /// Judges all that is looked at before the walk over the draws: lengths, the leave, the table.
@@ -77,7 +74,17 @@ fn mean_of(
     let Some(hands) = weight(tiles, draw) else {
         return Err(Refusal::Weight);
     };
-    let sums = aggregate(add, full_v, pool, 0, draw, tiles, 1.0, s_ridx, 0.0, 0.0, 16);
+    let tables = Tables { add, full_v, pool };
+    let leave = Drawn {
+        w: 1.0,
+        ridx: s_ridx,
+    };
+    let none = Totals {
+        num: 0.0,
+        den: 0.0,
+        most: 16,
+    };
+    let sums = tables.aggregate(0, draw, tiles, leave, none);
     if !within_limit(hands, sums.most) {
         return Err(Refusal::Weight);
     }

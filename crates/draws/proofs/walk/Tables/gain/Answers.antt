@@ -1,4 +1,4 @@
--- `draws::walk::gain` meets its contract. Assumes nothing.
+-- `draws::walk::Tables::gain` meets its contract. Assumes nothing.
 use mathlib.Core.Path.{◌≡◌, ap, ap₂, ◌∙◌}
 use Prim.Native.Nat.{ℕ, max}
 use lib.IntN.{ℤ, nat_abs}
@@ -12,15 +12,15 @@ use Rattle.whole.specs.Whole.{whole}
 use Rattle.draws.specs.Walk.{totals, gathered_one}
 use Rattle.draws.specs.Walk as Walk
 use Rattle.draws.specs.Walk.{factor, met, met_tile, Gathered}
-use Rattle.draws.proofs.walk.gain.Goals as goal
+use Rattle.draws.proofs.walk.Tables.gain.Goals as goal
 
 pub returns : goal.returns
 unfolding Walk.gain
 returns c =
     let a = c.args in
-    let x : ℤ = at_ℤ a.full_v.now a.ridx in
+    let x : ℤ = at_ℤ a.self.now.full_v.now a.rack.ridx in
     let fits : SFits w32 x = search rules in
     let back : to_z w32 (of_z w32 x) ≡ x = to_z-of_z w32 x fits in
-    gathered_one (a.w, a.ridx)
-    (ap₂ (λ (z : ℤ) (k : ℕ). totals (add binary64 a.num (mul binary64 a.w (whole z))) (add binary64 a.den a.w) k) back (c.larger.ensures ∙ ap (λ (z : ℤ). max a.most (nat_abs z)) back))
+    gathered_one (a.rack.w, a.rack.ridx)
+    (ap₂ (λ (z : ℤ) (k : ℕ). totals (add binary64 a.sums.num (mul binary64 a.rack.w (whole z))) (add binary64 a.sums.den a.rack.w) k) back (c.larger.ensures ∙ ap (λ (z : ℤ). max a.sums.most (nat_abs z)) back))
     fits.sfits
