@@ -1,7 +1,7 @@
 -- Pascal's rule over the table: one test that is computed over all of it, and the law that carries the test to each entry. Assumes nothing.
-use Rattle.std.proofs.Common.{◌≡◌, ℕ, zero, suc, ◌+◌, ◌*◌, ◌≤◌, Bool, true, nat_eq, get_or, refl, eqb-true, zero-add, arith}
+use Rattle.std.proofs.Common.{◌≡◌, ℕ, zero, suc, ◌+◌, ◌*◌, ◌≤◌, Bool, true, nat_eq, get_or, sym, refl, ◌∙◌, add_comm, eqb-true, arith}
 use Rattle.std.proofs.lemmas.Bool.{agree_below, agree_below_at}
-use Rattle.binomials.specs.Binomial.{binomial, binomial_zero, binomial_self, pascal_sum}
+use Rattle.binomials.specs.Binomial.{binomial, symmetric, by_rule}
 use Rattle.binomials.specs.declared.table.TheConstants.{BINOMIALS}
 
 abbrev at : ℕ → ℕ → ℕ
@@ -22,11 +22,13 @@ kept = refl
 keeps_at : (p k : ℕ) → p ≤ 64 → k ≤ 16 → keeps p k ≡ true
 keeps_at p k h l = agree_below_at (keeps p) (λ k. true) 17 k (agree_below_at row_keeps (λ p. true) 65 p kept (omega arith)) (omega arith)
 
+top : (k : ℕ) → k ≤ 16 → at zero k ≡ 1
+top k l = eqb-true _ _ (keeps_at zero k (omega arith) l)
+
+first : (p : ℕ) → p ≤ 64 → at p zero ≡ 1
+first zero h = top zero (omega arith)
+first (suc p) h = eqb-true _ _ (keeps_at (suc p) zero h (omega arith))
+
 -- C(k + p, p), as the contract has it, is what the rule makes
 pub entry : (p k : ℕ) → p ≤ 64 → k ≤ 16 → at p k ≡ binomial (k + p) p
-entry zero k h l = rw (eqb-true _ _ (keeps_at zero k h l), binomial_zero) refl
-entry (suc p) zero h l = rw (eqb-true _ _ (keeps_at (suc p) zero h l), zero-add, binomial_self) refl
-entry (suc p) (suc k) h l =
-    let above = entry p (suc k) (omega arith) l in
-    let left = entry (suc p) k h (omega arith) in
-    rw (eqb-true _ _ (keeps_at (suc p) (suc k) h l), above, left, pascal_sum k p) refl
+entry p k h l = by_rule at 64 16 first top (λ p k h l. eqb-true _ _ (keeps_at (suc p) (suc k) h l)) p k h l ∙ rw (add_comm k p) (sym (symmetric p k))

@@ -72,6 +72,16 @@ table_monotone {p} {q} {j} {k} h l =
     let down : binomial (p + j) j ≤ binomial (q + j) j = monotone j (omega arith) in
     omega (arith, symmetric q j, symmetric q k)
 
+-- a table of P + 1 rows and K + 1 columns that begins each with 1 and meets Pascal's rule holds C(p + k, k) at row p and column k
+pub by_rule : (T : ℕ → ℕ → ℕ) (P K : ℕ) → ((p : ℕ) → p ≤ P → T p zero ≡ 1) → ((k : ℕ) → k ≤ K → T zero k ≡ 1) → ((p k : ℕ) → p < P → k < K → T (suc p) (suc k) ≡ T p (suc k) + T (suc p) k)
+    → (p k : ℕ) → p ≤ P → k ≤ K → T p k ≡ binomial (p + k) k
+by_rule T P K first top rule p zero h l = rw (first p h, binomial_zero)
+by_rule T P K first top rule zero (suc k) h l = rw (top (suc k) l, zero-add, binomial_self)
+by_rule T P K first top rule (suc p) (suc k) h l =
+    let above = by_rule T P K first top rule p (suc k) (omega arith) l in
+    let left = by_rule T P K first top rule (suc p) k h (omega arith) in
+    rw (rule p k h l, pascal_sum p k) (omega arith)
+
 -- the hockey-stick sum, over c from 0 to k
 pub hockey_stick : (k p : ℕ) → sum_over (upto (suc k)) (λ c. binomial (c + p) p) ≡ binomial (k + suc p) (suc p)
 hockey_stick zero p = sum_upto_suc naturals zero _ ∙ ap (λ (s : ℕ). s + binomial (zero + p) p) (sum_upto_zero naturals _) ∙ simp (zero-add, binomial_self)

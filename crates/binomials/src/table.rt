@@ -1,4 +1,5 @@
 // C(p + k, k) at p * 17 + k, for p from 0 to 64 and k from 0 to 16.
+// Flat (C): docs/DECISIONS.md, "Forms": one table of constants.
 
 #[rattlefmt::skip]
 pub(crate) static BINOMIALS: [u64; 1105] = [

@@ -1,5 +1,7 @@
-//! The walk over the choices of blanks among sorted tiles: every play raises its entry of the sheet.
-ghost use Rattle.std.specs.Prelude.{◌≡◌, ℕ, suc, ◌+◌, ◌-◌, ◌*◌, ◌^◌, ◌≤◌, ◌<◌, nat_abs, pos, ◌-ℤ◌, length, get_or, take, replicate};
+//! The walk over the choices of blanks among sorted tiles: every play raises its entry of the
+//! sheet.
+ghost use Rattle.std.specs.Prelude.{◌≡◌, ℕ, suc, ◌+◌, ◌-◌, ◌*◌, ◌^◌, ◌≤◌, ◌<◌};
+ghost use Rattle.std.specs.Prelude.{nat_abs, pos, ◌-ℤ◌, length, get_or, take, replicate};
 ghost use Rattle.std.specs.Int.Count.{ones};
 ghost use Rattle.lattice.specs.Tally.{start};
 ghost use Rattle.lattice.specs.Step.{step};
@@ -11,12 +13,13 @@ ghost use Rattle.blanks.specs.Ready.{less, Small, Board, Heads, Finds};
 ghost use Rattle.blanks.specs.Tails.{Tails};
 
 use binomials::choose;
-use lattice::{passed, start_of};
+use lattice::{past, start_of};
 use maxima::raise;
-use runs::next_run;
+use runs::{Runs, next_run};
 
 /// The word of letters with one more tile of the letter that has p letters after it: its bit is
 /// added where it had no tile.
+// Added (N): `|` would ask of the word that it has the bits of the letters with tiles, no others.
 fn with_letter(word: u64, count: u8, p: usize) -> u64
     requires bit { p < 64 }
     requires fits { word + (1 - mark count) * 2 ^ p < 2 ^ 64 }
@@ -36,27 +39,17 @@ fn tally_letters(letters: &[u8], tally: &mut [u8]) -> u64
     ensures tally { Tallied letters.now tally.new }
     ensures word { result ≡ present tally.new }
 {
+    // The word is made on the way (S): letters_of goes over every letter, not over the placed tiles
+    // alone, and tally and word then take half as long again.
     let mut word: u64 = 0;
-    for j in 0..letters.len() {
-        let l = usize::from(letters[j]);
+    for &letter in letters {
+        let l = usize::from(letter);
         let x = l - 1;
         let count = tally[x];
         word = with_letter(word, count, tally.len() - l);
         tally[x] = count + 1;
     }
     word
-}
-
-/// The rank within its size, one letter further: w is what the letters after it add, s of whose
-/// tiles are real, and c tiles of a letter with n after it are put before them.
-#[inline]
-fn past(n: usize, s: usize, w: usize, c: usize) -> usize
-    requires letters { n ≤ 64 }
-    requires tiles { s + c ≤ 15 }
-    requires fits { w + step n (s + c) c < 2 ^ 64 }
-    ensures { result ≡ w + step n (s + c) c }
-{
-    w + passed(n, s, c) as usize
 }
 
 /// v less the first b drops from `at` on.
@@ -66,9 +59,10 @@ fn lowered(drops: &[i32], at: usize, b: usize, v: i32) -> i32
     requires bound { nat_abs v + 16777215 * b ≤ 788529136 }
     ensures { result ≡ less v drops.now at b }
 {
+    // Not a fold (P): that each difference fits is not shown of its closure.
     let mut value = v;
-    for i in 0..b {
-        value -= drops[at + i];
+    for drop in &drops[at..at + b] {
+        value -= *drop;
     }
     value
 }
@@ -109,9 +103,10 @@ fn heads_of(n: usize, size: usize, blanks: usize) -> [usize; 16]
 {
     let top = start_of(n, size + 1) as usize;
     let most = blanks.min(size);
+    // Of fixed size (C): the calls have no heap.
     let mut heads = [0; 16];
-    for k in 0..=most {
-        heads[k] = head(n, size, top, k);
+    for (k, begin) in heads[..=most].iter_mut().enumerate() {
+        *begin = head(n, size, top, k);
     }
     heads
 }
@@ -136,6 +131,7 @@ fn tails_of(
 {
     let mut s = 0;
     let mut rank = 0;
+    // A while (N): each run's tiles say where the next begins.
     while s < real {
         let l = usize::from(letters[s]);
         let count = usize::from(tally[l - 1]);
@@ -165,11 +161,15 @@ struct Placed<'a> {
     tails: &'a [usize; 16],
     free: usize,
     ghost heads_right: { Heads heads.now (length unseen.now) (length letters.now) most },
-    ghost tails_right: { Tails letters.now unseen.now (length tally.now) (length letters.now - most) tails.now free },
+    ghost tails_right: { Tails letters.now unseen.now (length tally.now)
+        (length letters.now - most) tails.now free },
 }
 
 /// How far a walk has come: the first tiles, which are of the letters from 1 to `letters`, are
 /// still to choose. Of those after them so many are blanks, and so many are real and add `rank`.
+// How many blanks are left goes beside it (N): each turn tests that, and a play's head is read by
+// those it has; neither is then made of the other. The word of these letters, too (N): as Runs it
+// would bring the tally a second time, and each contract would say of both that they are the same.
 #[derive(Clone, Copy)]
 struct Place {
     letters: usize,
@@ -236,23 +236,23 @@ impl<'a> Placed<'a> {
         requires blanks { place.blanks + 1 ≡ self.now.most }
         ensures { Raised sheet.old (Plays self.now place 1 v) sheet.new }
     {
-        let mut there = word;
-        let mut end = place.letters;
+        let mut runs = Runs {
+            tally: self.tally,
+            stop: place.letters,
+            word,
+        };
         let mut tiles = place.tiles;
         let mut real = place.real;
         let mut rank = place.rank;
-        while there.count_ones() != 0 {
-            let run = next_run(self.tally, there, end);
-            let l = run.stop;
-            there = run.rest;
-            end = l - 1;
-            let count = usize::from(self.tally[end]);
-            let forced = count.saturating_sub(usize::from(self.unseen[l]));
+        // A while (N): the runs are no iterator, since a walk hands the rest on.
+        while let Some((last, before)) = runs.split_last() {
+            let count = last.count;
+            let forced = count.saturating_sub(usize::from(self.unseen[last.stop]));
             if 1 < forced {
                 return;
             }
             let here = Place {
-                letters: l,
+                letters: last.stop,
                 tiles,
                 blanks: place.blanks,
                 real,
@@ -262,9 +262,10 @@ impl<'a> Placed<'a> {
             if forced == 1 {
                 return;
             }
-            rank = past(self.tally.len() - l, real, rank, count);
+            rank = past(self.tally.len() - last.stop, real, rank, count);
             tiles -= count;
             real += count;
+            runs = before;
         }
         self.raise_at(sheet, place.blanks, rank, v);
     }
@@ -295,16 +296,16 @@ impl<'a> Placed<'a> {
         ensures { Raised sheet.old (Plays self.now place left v) sheet.new }
     {
         let run = next_run(self.tally, word, place.letters);
-        let l = run.stop;
+        let letter = run.stop;
         let rest = run.rest;
-        let before = l - 1;
-        let p = self.tally.len() - l;
+        let before = letter - 1;
+        let p = self.tally.len() - letter;
         let count = usize::from(self.tally[before]);
         let s = place.tiles - count;
+        let forced = count.saturating_sub(usize::from(self.unseen[letter]));
         let most = count.min(left);
-        let mut b = count.saturating_sub(usize::from(self.unseen[l]));
-        let mut u = lowered(self.drops, s, b, v);
-        while b <= most {
+        let mut u = lowered(self.drops, s, forced, v);
+        for b in forced..=most {
             let x = count - b;
             let y = past(p, place.real, place.rank, x);
             let still = left - b;
@@ -321,7 +322,6 @@ impl<'a> Placed<'a> {
                 self.walk(sheet, next, rest, still, u);
             }
             u = lower(self.drops, s + b, place.tiles, u);
-            b += 1;
         }
     }
 
@@ -335,7 +335,7 @@ impl<'a> Placed<'a> {
         requires blanks { place.blanks + left ≡ self.now.most }
         ensures { Raised sheet.old (Plays self.now place left v) sheet.new }
     {
-        if word.count_ones() == 0 {
+        if word == 0 {
             self.raise_at(sheet, place.blanks, place.rank, v);
         } else {
             self.turns(sheet, place, word, left, v);
@@ -366,6 +366,7 @@ pub fn raise_all(
     let word = tally_letters(letters, tally);
     let heads = heads_of(unseen.len(), letters.len(), blanks);
     let real = letters.len().saturating_sub(blanks);
+    // Of fixed size (C), as heads.
     let mut tails = [0; 16];
     let free = tails_of(letters, drops, unseen, tally, real, &mut tails);
     let placed = Placed {

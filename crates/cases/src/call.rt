@@ -4,8 +4,8 @@ ghost use Rattle.cases.specs.Call.{Decodes};
 use std::error::Error;
 use std::fmt;
 
-/// What a record of a list is of: the first five set what later ones use, and each names the call
-/// that it is compared with.
+/// What a record of a list is of: the first five set what later ones use, and each but `Pool`,
+/// `Sheet`, `Leave` and `Best`, which give a list, names the call that it is compared with.
 #[derive(Clone, Copy, Debug, PartialEq, Eq, Hash)]
 pub enum Call {
     Sizes = 1,
@@ -80,6 +80,7 @@ impl TryFrom<u64> for Call {
 
     ghost try_from_gives = { Decodes };
 
+    // By a match (P): of what `find` over `ALL` answers the check proves not that it is the call.
     fn try_from(number: u64) -> Result<Self, UnknownCall> {
         match number {
             1 => Ok(Call::Sizes),

@@ -1,4 +1,5 @@
-ghost use Rattle.std.specs.Prelude.{◌≡◌, ℕ, ◌≤◌, ◌↔◌, [], ◌∷◌, ◌++◌, Some, length, vec_len, take, drop, IsTrue, IsOk, IfOk, OnErr};
+ghost use Rattle.std.specs.Prelude.{◌≡◌, ℕ, ◌≤◌, ◌↔◌, [], ◌∷◌, ◌++◌, Some, length, vec_len, take};
+ghost use Rattle.std.specs.Prelude.{drop, IsTrue, IsOk, IfOk, OnErr};
 ghost use Rattle.cases.specs.Listed.{AreNumbersOf};
 
 use crate::fault::Fault;
@@ -52,10 +53,7 @@ impl<'a> Fields<'a> {
         ensures enough { IsOk result ↔ (len ≤ length self.old.left.now) }
         ensures err { OnErr result (self.new.left.now ≡ self.old.left.now) }
     {
-        if len > self.left.len() {
-            return Err(Fault::Malformed);
-        }
-        let (first, rest) = self.left.split_at(len);
+        let (first, rest) = self.left.split_at_checked(len).ok_or(Fault::Malformed)?;
         self.left = rest;
         Ok(first)
     }

@@ -1,4 +1,5 @@
-ghost use Rattle.std.specs.Prelude.{◌≡◌, ◌≢◌, [], ◌∷◌, ◌↔◌, None, Some, IsTrue, IsOk, IfOk, IsSome, IfSome, OnErr, Contains};
+ghost use Rattle.std.specs.Prelude.{◌≡◌, ◌≢◌, [], ◌∷◌, ◌↔◌, None, Some, IsTrue, IsOk, IfOk, IsSome};
+ghost use Rattle.std.specs.Prelude.{IfSome, OnErr, Contains};
 ghost use Rattle.std.specs.Str.Parse.{digits_value};
 
 use std::alloc::{AllocFailed, Global};
@@ -45,6 +46,7 @@ impl From<AllocFailed<u64>> for ListError {
 }
 
 /// Whether a byte stands between words.
+// As in text (N): a list is no listing, and this crate uses none of the library's.
 pub fn is_blank(byte: &u8) -> bool
     ensures { IsTrue result ↔ Contains (32 ∷ 9 ∷ 10 ∷ 13 ∷ []) byte.now }
 {

@@ -1,4 +1,5 @@
-ghost use Rattle.std.specs.Prelude.{◌≡◌, ℕ, ◌%◌, ◌^◌, ◌<◌, ◌≤◌, ◌↔◌, ⊤, Some, None, Option, is_nan, to_bits, IsTrue, IsSome, IfSome, FitsSigned, if◌then◌else◌};
+ghost use Rattle.std.specs.Prelude.{◌≡◌, ℕ, ◌%◌, ◌^◌, ◌<◌, ◌≤◌, ◌↔◌, ⊤, Some, None, Option, is_nan};
+ghost use Rattle.std.specs.Prelude.{to_bits, IsTrue, IsSome, IfSome, FitsSigned, if◌then◌else◌};
 ghost use Rattle.std.specs.Float.{binary64};
 ghost use Rattle.std.specs.Int.{cast_signed, cast_unsigned, w32, w64};
 ghost use Rattle.cases.specs.Listed.{AreNumbersOf};

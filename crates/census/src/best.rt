@@ -46,7 +46,8 @@ pub struct Play {
 }
 
 impl From<Result<i32, Refusal>> for Equity {
-    ghost from_gives = { λ answer equity. (equity.number ≡ number_of answer) × (equity.value ≡ best_value answer) };
+    ghost from_gives = { λ answer equity. (equity.number ≡ number_of answer)
+        × (equity.value ≡ best_value answer) };
 
     #[tactic(auto, unfolding(search::specs::Answers::best_value))]
     fn from(answer: Result<i32, Refusal>) -> Equity {
@@ -58,7 +59,8 @@ impl From<Result<i32, Refusal>> for Equity {
 }
 
 impl From<Result<Option<Kept>, Refusal>> for Leave {
-    ghost from_gives = { λ answer leave. (leave.number ≡ number_of answer) × (kept leave.value leave.rank ≡ keep_value answer) };
+    ghost from_gives = { λ answer leave. (leave.number ≡ number_of answer)
+        × (kept leave.value leave.rank ≡ keep_value answer) };
 
     #[tactic(auto, unfolding(search::specs::Answers::keep_value))]
     fn from(answer: Result<Option<Kept>, Refusal>) -> Leave {
@@ -78,13 +80,15 @@ impl From<Result<Option<Kept>, Refusal>> for Leave {
 }
 
 impl From<Result<calls::Play, Refusal>> for Play {
-    ghost from_gives = { λ answer play. (play.number ≡ number_of answer) × (play.kind ≡ kind_byte (move_kind answer)) × (play.value ≡ move_value answer) };
+    ghost from_gives = { λ answer play. (play.number ≡ number_of answer)
+        × (play.kind ≡ kind_byte (move_kind answer)) × (play.value ≡ move_value answer) };
 
     #[tactic(auto, unfolding(search::specs::Answers::move_value, search::specs::Answers::move_kind, search::specs::Answers::kind_of, crate::specs::Plain::kind_byte))]
     fn from(answer: Result<calls::Play, Refusal>) -> Play {
         match answer {
             Ok(play) => Play {
                 number: 0,
+                // A number (C): an enum does not cross; a list of cases has the same (trials).
                 kind: match play.kind {
                     Kind::Word => 1,
                     Kind::Exchange => 2,
@@ -151,7 +155,8 @@ pub extern "C" fn census_naive_best_equity(
     tally: &[u8],
     kept: &mut [u8],
 ) -> Play
-    ensures { PlainPlay n r sheet.now leave.now tally.now «kept».old result.number result.kind result.value «kept».new }
+    ensures { PlainPlay n r sheet.now leave.now tally.now «kept».old
+        result.number result.kind result.value «kept».new }
 {
     Play::from(naive_best_equity(Lattice { n, r }, sheet, leave, tally, kept))
 }

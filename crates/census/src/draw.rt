@@ -10,7 +10,8 @@ use refusal::{Refusal, number};
 use whole::UNPLAYABLE;
 
 impl From<Result<Option<i32>, Refusal>> for Equity {
-    ghost from_gives = { λ answer equity. (equity.number ≡ number_of answer) × (equity.value ≡ value answer) };
+    ghost from_gives = { λ answer equity. (equity.number ≡ number_of answer)
+        × (equity.value ≡ value answer) };
 
     fn from(answer: Result<Option<i32>, Refusal>) -> Equity {
         Equity {

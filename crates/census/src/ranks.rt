@@ -3,7 +3,8 @@ ghost use Rattle.refusal.specs.Refusal.{number_of};
 ghost use Rattle.lattice.specs.Tally.{lattice, start};
 ghost use Rattle.lattice.specs.Tiles.{tally_of, sparse};
 ghost use Rattle.lattice.specs.Answers.{Unranked};
-ghost use Rattle.lattice.specs.Numbers.{value, len_number, size_start_number, rank_number, rank_bytes_number, rank_sparse_number};
+ghost use Rattle.lattice.specs.Numbers.{value, len_number, size_start_number, rank_number};
+ghost use Rattle.lattice.specs.Numbers.{rank_bytes_number, rank_sparse_number};
 ghost use Rattle.lattice.specs.Triangle.{PascalRows};
 ghost use Rattle.census.specs.Plain.{PlainSize, PlainRank};
 
@@ -23,7 +24,8 @@ pub struct Rank {
 }
 
 impl From<Result<u32, Refusal>> for Rank {
-    ghost from_gives = { λ answer rank. (rank.number ≡ number_of answer) × (rank.value ≡ value answer) };
+    ghost from_gives = { λ answer rank. (rank.number ≡ number_of answer)
+        × (rank.value ≡ value answer) };
 
     fn from(answer: Result<u32, Refusal>) -> Rank {
         Rank {
@@ -63,7 +65,8 @@ pub extern "C" fn census_rank(n: usize, r: usize, tally: &[u8]) -> Rank
 
 #[unsafe(no_mangle)]
 pub extern "C" fn census_rank_bytes(n: usize, r: usize, tiles: &[u8]) -> Rank
-    ensures { PlainRank n r (tally_of n tiles.now) (rank_bytes_number n r tiles.now) result.number result.value }
+    ensures { PlainRank n r (tally_of n tiles.now) (rank_bytes_number n r tiles.now)
+        result.number result.value }
 {
     Rank::from(Lattice { n, r }.rank_bytes(tiles))
 }

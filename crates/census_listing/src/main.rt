@@ -1,4 +1,5 @@
-// The census listing: reads a board from standard input, and writes its listing, or the number of its refusal, to standard output.
+//! The census listing: reads a board from standard input, and writes its listing, or the number of
+//! its refusal, to standard output.
 #![tactic(auto)]
 
 use std::io;

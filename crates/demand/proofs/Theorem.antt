@@ -14,6 +14,7 @@ use Rattle.hands.specs.Hands.{rack_of, ways, holds, holding, hand_sum, tallies_e
 use Rattle.hands.proofs.Hands.{hand_sum_cond, ways_drawable, hand_count_le, hand_sum_le}
 use Rattle.search.specs.Split.{best_split}
 use Rattle.demand.specs.Demand.{Board, Road, Premises, Called, sum_of, count_of, Right, Demand}
+use Rattle.demand.proofs.EachOnce.{each_once}
 use Rattle.demand.proofs.HandBest.{hand_best_lem}
 use Rattle.demand.specs.Gives.{Gives}
 use Rattle.demand.proofs.Gives.{road_gives}
@@ -49,6 +50,7 @@ module _ (b : Board) {num den : List Float} (s : Gives b num den) (m : List ℕ)
 
   gives_right : Right b m (get_or num (rank_of b.n m) nan) (get_or den (rank_of b.n m) nan)
   gives_right = record {
+    hands = each_once b.pool b.r m;
     sum = sum_is;
     count = s.count m letters tiles;
     quotient = λ k. rw (sum_is, s.count m letters tiles) (quotient_cut (sum_of b m) (count_of b m) k small few);

@@ -10,6 +10,7 @@ use Rattle.whole.specs.Whole.{whole}
 use Rattle.lattice.specs.Tally.{total, rank_of}
 use Rattle.lattice.specs.Tallies.{Fits}
 use Rattle.hands.specs.Hands.{Tile, rack_of, holds, holding, hand_count}
+use Rattle.hands.specs.Sets.{EachOnce}
 use Rattle.hands.specs.Partings.{Parting, partings}
 use Rattle.search.specs.Split.{best_split}
 use Rattle.maxima.specs.Judge.{SubsetMax}
@@ -32,11 +33,12 @@ pub data Road : Type 0 where
 
 -- ---- a leave's count and sum
 
--- the greatest of f over a list; 0 where the list is empty, which `partings` never is
+-- the greatest of v and of f over a list
 unfoldable pub greatest_from : {A : Type 0} → ℤ → (A → ℤ) → List A → ℤ
 greatest_from v f [] = v
 greatest_from v f (x ∷ xs) = greatest_from (max_ℤ v (f x)) f xs
 
+-- the greatest of f over a list; 0 where the list is empty, which `partings` never is
 unfoldable pub greatest : {A : Type 0} → (A → ℤ) → List A → ℤ
 greatest f [] = pos 0
 greatest f (x ∷ xs) = greatest_from (f x) f xs
@@ -71,6 +73,7 @@ module _ (b : Board) where
     pub is_max : in_force mode ≡ true → SubsetMax n r leave leave_max
     pub no_leave : mode.null_leave ≡ true → (i : ℕ) → at_ℤ leave i ≡ pos 0
 
+  -- what is true of what the road is given
   abbrev pub RoadPremise : Road → Type 0
   RoadPremise (table best) = TrueBest best
   RoadPremise (fused mode leave_max) = TrueFused mode leave_max
@@ -101,15 +104,27 @@ module _ (b : Board) where
   -- ---- what it leaves at a leave
 
   -- the sum and the count over the hands that hold the leave, as whole numbers; and their float quotient, cut, is their quotient cut toward zero
+  -- and those hands are each set of r distinct unseen tiles whose rack holds the leave, once
   pub record Right (m : List ℕ) (num den : Float) : Type 0 where
+    pub hands : EachOnce pool r m (holding pool r m)
     pub sum : num ≡ whole (sum_of m)
     pub count : den ≡ whole (pos (count_of m))
     pub quotient : 0 < count_of m → to_signed 63 (div binary64 num den) ≡ quot_z (sum_of m) (pos (count_of m))
 
+-- each leave of the board has its sum and its count in num and den
+abbrev pub EachRight : Board → List Float → List Float → Type 0
+EachRight b num den = (m : List ℕ) → length m ≡ b.n → total m < b.r → Right b m (get_or num (rank_of b.n m) nan) (get_or den (rank_of b.n m) nan)
+
 -- "The one claim"
 abbrev pub Demand : Type 0
-Demand =
-    (b : Board) (road : Road) → Premises b road
-    → (num den num' den' : List Float) → Called b road num den 0 num' den'
-    → (m : List ℕ) → length m ≡ b.n → total m < b.r
-    → Right b m (get_or num' (rank_of b.n m) nan) (get_or den' (rank_of b.n m) nan)
+Demand = (b : Board) (road : Road) → Premises b road → (num den num' den' : List Float) → Called b road num den 0 num' den' → EachRight b num' den'
+
+-- ---- for the contracts of the two calls
+
+-- the board of a call's slices
+abbrev pub board_of : (n r : ℕ) (pool : List ℕ) (sheet leave : List ℤ) → Board
+board_of n r pool sheet leave = record { n = n; r = r; pool = pool; sheet = sheet; leave = leave }
+
+-- what a road leaves where its premises hold
+abbrev pub RoadRight : Board → Road → List Float → List Float → Type 0
+RoadRight b road num den = Premises b road → EachRight b num den

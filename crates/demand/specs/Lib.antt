@@ -2,3 +2,4 @@
 pub mod Demand
 pub mod Gives
 pub mod Taken
+pub mod Example

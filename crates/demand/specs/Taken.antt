@@ -1,6 +1,6 @@
 -- The claim is not empty: one board on which every road's premises hold and every road's call is accepted, with what it leaves. One letter, racks of one
 -- tile, one tile in the pool; the word of that tile scores 5, and no leave is worth anything. Assumes nothing.
-use Rattle.std.specs.Prelude.{◌≡◌, ◌⊎◌, true, List, [], ◌∷◌, ℕ, zero, suc, ◌≤◌, ◌<◌, ℤ, ◌+ℤ◌, length, ◌≤ℤ◌}
+use Rattle.std.specs.Prelude.{◌≡◌, ◌⊎◌, true, List, [], ◌∷◌, ℕ, zero, suc, ◌≤◌, ◌<◌, Float, ℤ, ◌+ℤ◌, length, ◌≤ℤ◌}
 use Rattle.std.proofs.Math.Path.{refl}
 use Rattle.std.proofs.Common.{sym, ap, ◌∙◌, inr, ⊎_elim, suc-ne-zero}
 use Rattle.std.proofs.Math.Logic.{inl}
@@ -29,8 +29,9 @@ use Rattle.fused.specs.Modes.{mode_split}
 use Rattle.fused.specs.declared.mode.Mode.{Mode}
 use Rattle.table_sums.specs.Table as Ts
 use Rattle.table_sums.specs.Table.{best_at}
-use Rattle.demand.specs.Demand.{Board, table, fused, Premises, Called}
+use Rattle.demand.specs.Demand.{Board, Road, table, fused, Premises, Called}
 
+-- the board: one letter, racks of one tile, one tile in the pool
 abbrev pub board : Board
 board = record { n = 1; r = 1; pool = 1 ∷ []; sheet = pos 0 ∷ pos 5 ∷ []; leave = pos 0 ∷ pos 0 ∷ [] }
 
@@ -148,9 +149,11 @@ unfolding rank_of start within total binomial
 splits_are = record { long = refl; rack = λ R f. rw (the_rack R f.letters f.tiles) (sym split_is); below = λ i h. let z : i ≡ 0 = omega arith in rw z refl }
 
 module _ (mode : Mode) where
+  -- what the fused call reads
   abbrev given : Fu.Input
   given = input 1 1 (1 ∷ []) [] board.sheet board.leave (pos 0 ∷ pos 0 ∷ []) (1 ∷ []) mode
 
+  -- what it is lent, and what it leaves
   abbrev lent_in : Fu.Lent
   lent_in = lent (whole (pos 0) ∷ []) (whole (pos 0) ∷ []) (whole (pos 0) ∷ []) (pos 0 ∷ pos 0 ∷ [])
 
@@ -211,3 +214,25 @@ module _ (mode : Mode) where
       filled = λ _. fused_filled;
     };
   }
+
+-- ---- every road
+
+-- a call takes the board by the road: its premises hold, and with some slices it is accepted
+pub record IsTaken (b : Board) (road : Road) : Type 0 where
+  pub premises : Premises b road
+  pub num : List Float
+  pub den : List Float
+  pub num' : List Float
+  pub den' : List Float
+  pub called : Called b road num den 0 num' den'
+
+-- the table sums, and the fused sums under each setting of their flags, are taken on this board
+pub record EveryRoad : Type 0 where
+  pub by_table : (best : List ℤ) × IsTaken board (table best)
+  pub by_fused : (mode : Mode) → (leave_max : List ℤ) × IsTaken board (fused mode leave_max)
+
+pub every_road : EveryRoad
+every_road = record {
+  by_table = (pos 0 ∷ pos 5 ∷ [], record { premises = table_premises; num = _; den = _; num' = _; den' = _; called = table_taken });
+  by_fused = λ mode. (pos 0 ∷ pos 0 ∷ [], record { premises = fused_premises mode; num = _; den = _; num' = _; den' = _; called = fused_taken mode });
+}

@@ -21,10 +21,10 @@ use Rattle.lattice.specs.Served.{facts}
 use Rattle.hands.specs.Hands.{hands, hands_count}
 use Rattle.draws.specs.declared.walk.Totals.{Totals}
 use Rattle.std.specs.Prelude.{Ok, Err, Some, None}
-use Rattle.refusal.specs.Refusal.{number_of}
+use Rattle.refusal.specs.Refusal.{code_of, code_some}
 use Rattle.refusal.specs.declared.Refusal.{Refusal}
-use Rattle.refusal.specs.declared.Refusal.TheVariants.{Sizes, Length, Letter, Range, Entry, Ranks, Scatter, NotClear, Weight}
-use Rattle.draws.specs.Draws.{Drawn, rack_after, best_after, draw_count, draw_sum, draw_most, maxima, largest, if_any, Limit, Passed, Judged, DrawNumber, given, draw_mean, drawn, Valued}
+use Rattle.refusal.specs.declared.Refusal.TheVariants.{Weight}
+use Rattle.draws.specs.Draws.{Drawn, rack_after, best_after, draw_count, draw_sum, draw_most, maxima, largest, if_any, Limit, Passed, DrawNumber, given, draw_mean, drawn, Valued}
 use Rattle.draws.specs.Draws.DrawNumber.{limit, accepted}
 use Rattle.draws.specs.Walk.{factor, product, met, totals, gains, Gathered}
 use Rattle.draws.specs.Walking.{Walking}
@@ -232,27 +232,9 @@ answer_heavy {n} {r} {add} {full} {pool} {i} {d} p f = record {
   is = λ e. absurd (let z : ◌≡◌ {A = ℕ} 9 0 = e in omega arith);
 }
 
--- an answer of what is judged before
-pub judged_no : {n r : ℕ} {add : List ℕ} {full : List ℤ} {pool : List ℕ} {i d : ℕ} (k : ℕ) → DrawNumber n r add full pool i d (suc k) → Judged n r add full pool i d (suc k)
-judged_no k h = record { refused = λ f. h; passed = λ e. absurd (omega arith) }
-
-pub judged_yes : {n r : ℕ} {add : List ℕ} {full : List ℤ} {pool : List ℕ} {i d : ℕ} → Passed n r add full pool i d → Judged n r add full pool i d 0
-judged_yes p = record { refused = λ f. absurd (f refl); passed = λ e. p }
-
--- a refusal has a number
-some_number : (e : Refusal) → number_of {A = Unit} (Err e) ≡ 0 → ⊥
-some_number Sizes z = omega arith
-some_number Length z = omega arith
-some_number Letter z = omega arith
-some_number Range z = omega arith
-some_number Entry z = omega arith
-some_number Ranks z = omega arith
-some_number Scatter z = omega arith
-some_number NotClear z = omega arith
-some_number Weight z = omega arith
-
-pub answer_refused : {n r : ℕ} {add : List ℕ} {full : List ℤ} {pool : List ℕ} {i d : ℕ} (e : Refusal) → Judged n r add full pool i d (number_of {A = Unit} (Err e)) → Valued n r add full pool i d (Err e)
-answer_refused {n} {r} {add} {full} {pool} {i} {d} e j = record { numbered = j.refused (some_number e); valued = go (number_of {A = Unit} (Err e)) (some_number e); is = λ z. absurd (some_number e z) }
+-- a refusal of what is judged before
+pub answer_refused : {n r : ℕ} {add : List ℕ} {full : List ℤ} {pool : List ℕ} {i d : ℕ} (e : Refusal) → DrawNumber n r add full pool i d (code_of e) → Valued n r add full pool i d (Err e)
+answer_refused {n} {r} {add} {full} {pool} {i} {d} e j = record { numbered = j; valued = go (code_of e) (code_some e); is = λ z. absurd (code_some e z) }
   where
     go : (k : ℕ) → (k ≡ 0 → ⊥) → unplayable ≡ given k (draw_mean n r full pool i d)
     go zero f = absurd (f refl)

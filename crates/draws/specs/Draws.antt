@@ -132,8 +132,3 @@ pub record Passed (n r : ℕ) (add : List ℕ) (full : List ℤ) (pool : List �
   pub lengths : Lengths n r add full pool
   pub fills : Fills n r i d
   pub table : AddTable n r add
-
--- k is the number of what it judged so
-pub record Judged (n r : ℕ) (add : List ℕ) (full : List ℤ) (pool : List ℕ) (i d k : ℕ) : Type 0 where
-  pub refused : (k ≡ 0 → ⊥) → DrawNumber n r add full pool i d k
-  pub passed : k ≡ 0 → Passed n r add full pool i d

@@ -5,3 +5,4 @@ pub mod Racks
 pub mod Exact
 pub mod Walking
 pub mod Leave
+pub mod Given

@@ -1,10 +1,11 @@
 //! Draws: the mean best of the racks that a kept leave and tiles drawn from a pool make.
 #![tactic(auto)]
 
-ghost use Rattle.std.specs.Prelude.{◌≡◌, ℕ, ◌+◌, length};
-ghost use Rattle.refusal.specs.Refusal.{number_of};
+ghost use Rattle.std.specs.Prelude.{IfOk, OnOk, IfErr};
+ghost use Rattle.refusal.specs.Refusal.{code_of};
 ghost use Rattle.lattice.specs.AddRows.{Decides};
-ghost use Rattle.draws.specs.Draws.{Fills, Passed, Judged, Valued};
+ghost use Rattle.draws.specs.Draws.{Fills, DrawNumber, Valued};
+ghost use Rattle.draws.specs.Given.{Given};
 
 use lattice::add::add_is_right;
 use lattice::sizes::Sizes;
@@ -14,7 +15,7 @@ use sums::weight::{tiles_in, weight, within_limit};
 use walk::{Drawn, Tables, Totals};
 use whole::cut;
 
-pub mod walk;
+mod walk;
 
 /// Whether the multiset at a rank makes a full rack with so many tiles more.
 fn fills(sizes: Sizes, s_ridx: usize, draw: usize) -> bool
@@ -29,52 +30,47 @@ fn fills(sizes: Sizes, s_ridx: usize, draw: usize) -> bool
 }
 
 /// Judges all that is looked at before the walk over the draws: lengths, the leave, the table.
-fn judge(
+fn judge<'a>(
     lat: Lattice,
-    add: &[u32],
-    full_v: &[i32],
-    pool: &[u8],
+    add: &'a [u32],
+    full_v: &'a [i32],
+    pool: &'a [u8],
     s_ridx: usize,
     draw: usize,
-) -> Result<(), Refusal>
-    ensures { Judged lat.n lat.r add.now full_v.now pool.now s_ridx draw (number_of result) }
+) -> Result<Tables<'a>, Refusal>
+    ensures given { IfOk result (Given lat.n lat.r add.now full_v.now pool.now) }
+    ensures fills { OnOk result (Fills lat.n lat.r s_ridx draw) }
+    ensures err { IfErr result (λ refusal.
+        DrawNumber lat.n lat.r add.now full_v.now pool.now s_ridx draw (code_of refusal)) }
 {
     let sizes = lat.sizes()?;
-    if add.len() != sizes.leaves * sizes.n {
-        return Err(Refusal::Length);
-    }
-    if full_v.len() != sizes.len {
-        return Err(Refusal::Length);
-    }
-    if pool.len() != sizes.n {
+    if add.len() != sizes.entries() || full_v.len() != sizes.len || pool.len() != sizes.n {
         return Err(Refusal::Length);
     }
     if !fills(sizes, s_ridx, draw) {
         return Err(Refusal::Range);
     }
-    if !add_is_right(sizes.n, sizes.r, add) {
+    if !add_is_right(sizes, add) {
         return Err(Refusal::Ranks);
     }
-    Ok(())
+    Ok(Tables {
+        sizes,
+        add,
+        full_v,
+        pool,
+    })
 }
 
 /// The mean over the draws, for input that is judged.
-fn mean_of(
-    add: &[u32],
-    full_v: &[i32],
-    pool: &[u8],
-    s_ridx: usize,
-    draw: usize,
-) -> Result<Option<i32>, Refusal>
-    requires { (n : ℕ) × (r : ℕ) × Passed n r add.now full_v.now pool.now s_ridx draw }
-    ensures { (n r : ℕ) → Passed n r add.now full_v.now pool.now s_ridx draw
-        → Valued n r add.now full_v.now pool.now s_ridx draw result }
+fn mean_of(tables: Tables, s_ridx: usize, draw: usize) -> Result<Option<i32>, Refusal>
+    requires { Fills tables.sizes.n tables.sizes.r s_ridx draw }
+    ensures { Valued tables.entry.sizes.n tables.entry.sizes.r tables.entry.add.now
+        tables.entry.full_v.now tables.entry.pool.now s_ridx draw result }
 {
-    let tiles = tiles_in(pool);
+    let tiles = tiles_in(tables.pool);
     let Some(hands) = weight(tiles, draw) else {
         return Err(Refusal::Weight);
     };
-    let tables = Tables { add, full_v, pool };
     let leave = Drawn {
         w: 1.0,
         ridx: s_ridx,
@@ -107,6 +103,6 @@ pub fn dynamic_leave_value(
 ) -> Result<Option<i32>, Refusal>
     ensures { Valued lat.n lat.r add.now full_v.now pool.now s_ridx draw result }
 {
-    judge(lat, add, full_v, pool, s_ridx, draw)?;
-    mean_of(add, full_v, pool, s_ridx, draw)
+    let tables = judge(lat, add, full_v, pool, s_ridx, draw)?;
+    mean_of(tables, s_ridx, draw)
 }

@@ -15,6 +15,7 @@ use runs::{letters_of, next_run};
 
 /// A leave's letters, where they end, and the rank of the first rack that extends it: that with one
 /// tile more of the last letter of all.
+// The word beside its tally (N): `Runs` borrows the tally, which changes from leave to leave.
 #[derive(Clone, Copy, Debug, PartialEq, Eq)]
 pub struct Extended {
     pub word: u64,
@@ -57,7 +58,7 @@ fn first_rank(r: usize, tally: &mut [u8]) -> usize
     rank
 }
 
-/// The leave of one tile less than a rack at a rank, unranked into a slice, and the racks that
+/// The leave at a rank, of one tile less than a rack, unranked into a slice, and the racks that
 /// extend it.
 pub fn extend_at(r: usize, rank: usize, tally: &mut [u8]) -> Extended
     requires served { served (length tally.old) r ≡ true }

@@ -13,7 +13,7 @@ use native.Mathlib.Nat.{le_trans}
 use native.Mathlib.Omega.{arith}
 use Rattle.laws.specs.Integer.{at_ℤ, ≤ℤ-antisym, ≡-≤ℤ}
 use Rattle.binomials.specs.Binomial.{binomial, positive}
-use Rattle.lattice.specs.Tally.{total, tallies, lattice, start, start_suc}
+use Rattle.lattice.specs.Tally.{total, tallies, lattice, start}
 use Rattle.lattice.specs.Lattice.{length_lattice, length_lattice_start, start_next}
 use Rattle.lattice.specs.declared.sizes.Sizes.{Sizes}
 use Rattle.search.specs.Split.{Bounded}
@@ -24,8 +24,7 @@ use Rattle.lattice.specs.Answers.{served}
 use Rattle.lattice.specs.RankTables.{RanksNumber}
 use Rattle.lattice.specs.RankTables.RanksNumber.{accepted, lengths, rule}
 use Rattle.lattice.specs.TableCalls.{Tables}
-use Rattle.maxima.proofs.Laws.{code_some}
-use Rattle.refusal.specs.Refusal.{code_of}
+use Rattle.refusal.specs.Refusal.{code_of, code_some}
 use Rattle.refusal.specs.declared.Refusal.{Refusal}
 
 -- the lattice's own length
@@ -43,8 +42,8 @@ pub leaves_fit : (s : Sizes) → s.leaves ≤ s.len
 leaves_fit s = (racks_left s.n s.r s.starts (whole s)).0
 
 -- there is the multiset of no tiles
-pub some_multiset : (n r : ℕ) → 0 < length (lattice n r)
-some_multiset n r = rw (length_lattice_start, start_suc) (positive (r + n) n (omega arith))
+pub some_multiset : (s : Sizes) → 0 < s.len
+some_multiset s = rw s.counts (positive (s.n + s.r) s.n (omega arith))
 
 -- ---- the sheet of words
 

@@ -4,7 +4,7 @@ ghost use Rattle.fused.specs.Answer.{input, lent, Fused};
 
 use crate::board::Board;
 use crate::fuse::fuse;
-use crate::judge::judge;
+use crate::judge::{Written, judge};
 use crate::mode::Mode;
 use lattice::Lattice;
 use refusal::Refusal;
@@ -12,6 +12,7 @@ use refusal::Refusal;
 /// Each leave's sum of bests and count over the hands that hold it, in num and den; each full
 /// rack's ways; and the bests, in maxsheet. num, den and ways are +0.0 on entry. The ranks letter
 /// by letter may be left out, as no entries; leave_max is read where scatter is in force.
+// (C): its parameters are those of docs/SCOPE.md's call; no letter table is an empty slice there.
 pub fn apportion_fused(
     lat: Lattice,
     add: &[u32],
@@ -39,7 +40,13 @@ pub fn apportion_fused(
         unseen,
         mode,
     };
-    let ranks = judge(sizes, add, by_letter, &board, num, den, ways, maxsheet)?;
+    let written = Written {
+        num,
+        den,
+        ways,
+        maxsheet,
+    };
+    let ranks = judge(sizes, add, by_letter, &board, &written)?;
     fuse(&ranks, &board, num, den, ways, maxsheet);
     Ok(())
 }

@@ -12,7 +12,18 @@ use maxima::is_subset_max;
 use refusal::Refusal;
 use sums::weight::{all_clear, largest, within_weight};
 
+/// The slices that a call writes, as they are on entry: the sums at the leaves, each full rack's
+/// ways, and the bests.
+#[derive(Clone, Copy)]
+pub struct Written<'a> {
+    pub num: &'a [f64],
+    pub den: &'a [f64],
+    pub ways: &'a [f64],
+    pub maxsheet: &'a [i32],
+}
+
 /// The largest entry of sheet and leave.
+// (N): search and blanks ask the same of an entry and of a score, each in one place.
 const LARGEST: u64 = 536_870_911;
 
 /// Whether leave_max, where it is read, has the lattice's length.
@@ -38,14 +49,15 @@ fn read_fit(sizes: Sizes, add: &[u32], by_letter: &[u32], board: &Board) -> bool
 
 /// Whether the slices that are written have those lengths.
 #[tactic(auto, using(crate::proofs::Judges::whole, crate::proofs::Judges::racks_are, crate::proofs::Judges::leaves_fit))]
-fn lent_fit(sizes: Sizes, num: &[f64], den: &[f64], ways: &[f64], maxsheet: &[i32]) -> bool
+fn written_fit(sizes: Sizes, written: &Written) -> bool
     ensures { IsTrue result ↔ LentLengths sizes.n sizes.r
-        (lent num.now den.now ways.now maxsheet.now) }
+        (lent written.now.num.now written.now.den.now written.now.ways.now
+        written.now.maxsheet.now) }
 {
-    num.len() == sizes.leaves
-        && den.len() == sizes.leaves
-        && ways.len() == sizes.len - sizes.leaves
-        && maxsheet.len() == sizes.len
+    written.num.len() == sizes.leaves
+        && written.den.len() == sizes.leaves
+        && written.ways.len() == sizes.len - sizes.leaves
+        && written.maxsheet.len() == sizes.len
 }
 
 /// Whether no entry is negative.
@@ -65,24 +77,25 @@ fn word_sheet(sheet: &[i32]) -> bool
 }
 
 /// Whether scatter, where it is in force, has a sheet and a leave_max that it can start from.
-#[tactic(auto, using(crate::proofs::Judges::some_multiset))]
+#[tactic(auto, using(crate::proofs::Judges::whole))]
 fn scatters(sizes: Sizes, board: &Board) -> bool
-    requires in_sheet { length board.now.sheet.now ≡ length (lattice sizes.n sizes.r) }
-    requires in_leave { length board.now.leave.now ≡ length (lattice sizes.n sizes.r) }
+    requires in_sheet { length board.now.sheet.now ≡ sizes.len }
+    requires in_leave { length board.now.leave.now ≡ sizes.len }
     requires in_leave_max { in_force board.now.mode ≡ true
-        → length board.now.leave_max.now ≡ length (lattice sizes.n sizes.r) }
+        → length board.now.leave_max.now ≡ sizes.len }
     ensures { IsTrue result ↔ (in_force board.now.mode ≡ true
         → Words sizes.n sizes.r board.now.sheet.now board.now.leave.now board.now.leave_max.now) }
 {
     !board.mode.in_force()
-        || word_sheet(board.sheet) && is_subset_max(sizes.n, sizes.r, board.leave, board.leave_max)
+        || word_sheet(board.sheet) && is_subset_max(sizes, board.leave, board.leave_max)
 }
 
 /// Whether the sums and the ways are all +0.0.
-fn cleared(num: &[f64], den: &[f64], ways: &[f64]) -> bool
-    ensures { IsTrue result ↔ Cleared num.now den.now ways.now }
+fn cleared(written: &Written) -> bool
+    ensures { IsTrue result
+        ↔ Cleared written.now.num.now written.now.den.now written.now.ways.now }
 {
-    all_clear(num) && all_clear(den) && all_clear(ways)
+    all_clear(written.num) && all_clear(written.den) && all_clear(written.ways)
 }
 
 /// Judges what a call is given, in the order of the refusals, and gives the tables of ranks.
@@ -91,13 +104,11 @@ pub fn judge<'a>(
     add: &'a [u32],
     by_letter: &'a [u32],
     board: &Board,
-    num: &[f64],
-    den: &[f64],
-    ways: &[f64],
-    maxsheet: &[i32],
+    written: &Written,
 ) -> Result<Ranks<'a>, Refusal>
     ensures number { FusedNumber (input_of sizes add.now by_letter.now board.now)
-        (lent num.now den.now ways.now maxsheet.now) (number_of result) }
+        (lent written.now.num.now written.now.den.now written.now.ways.now
+        written.now.maxsheet.now) (number_of result) }
     ensures sizes { IfOk result (λ ranks. ranks.sizes ≡ sizes) }
     ensures by_index { IfOk result (λ ranks. ranks.add.now ≡ add.now) }
     ensures letter_by_letter { IfOk result (λ ranks. letters_in ranks ≡ by_letter.now) }
@@ -105,7 +116,7 @@ pub fn judge<'a>(
     if !read_fit(sizes, add, by_letter, board) {
         return Err(Refusal::Length);
     }
-    if !lent_fit(sizes, num, den, ways, maxsheet) {
+    if !written_fit(sizes, written) {
         return Err(Refusal::Length);
     }
     let most_sheet = largest(board.sheet);
@@ -117,7 +128,7 @@ pub fn judge<'a>(
     if !scatters(sizes, board) {
         return Err(Refusal::Scatter);
     }
-    if !cleared(num, den, ways) {
+    if !cleared(written) {
         return Err(Refusal::NotClear);
     }
     if !within_weight(board.unseen, sizes.r, most_sheet, most_leave) {

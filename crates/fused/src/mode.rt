@@ -5,6 +5,7 @@ ghost use Rattle.fused.specs.Source.{source_of};
 
 /// Whether the sums are folded letter by letter, whether the tiles kept are worth nothing, and
 /// whether words are scattered.
+// (C): docs/SCOPE.md names three flags; where they take a best from is `Source`.
 #[derive(Clone, Copy, Debug, PartialEq, Eq, Hash)]
 pub struct Mode {
     pub zeta: bool,

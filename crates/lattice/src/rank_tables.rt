@@ -19,14 +19,15 @@ pub struct Ranks<'a> {
     pub add: &'a [u32],
     pub by_letter: Option<&'a [u32]>,
     pub ghost by_index: { AddTable sizes.n sizes.r add.now },
-    pub ghost letter_by_letter: { ForSome by_letter (λ letters. LetterTable sizes.n sizes.r letters.now) },
+    pub ghost letter_by_letter: { ForSome by_letter
+        (λ letters. LetterTable sizes.n sizes.r letters.now) },
 }
 
 /// Whether tables of so many entries have the lengths that the lattice's have.
 pub fn have_lengths(sizes: Sizes, add: usize, by_letter: usize) -> bool
     ensures { IsTrue result ↔ TableLengths sizes.n sizes.r add by_letter }
 {
-    let whole = sizes.leaves * sizes.n;
+    let whole = sizes.entries();
     add == whole && (by_letter == 0 || by_letter == whole)
 }
 
@@ -36,13 +37,13 @@ impl<'a> Ranks<'a> {
         ensures number { RanksNumber sizes.n sizes.r add.now by_letter.now (number_of result) }
         ensures sizes { IfOk result (λ ranks. ranks.sizes ≡ sizes) }
         ensures by_index { IfOk result (λ ranks. ranks.add.now ≡ add.now) }
-        ensures letter_by_letter { IfOk result (λ ranks. MatchOption ranks.by_letter (by_letter.now ≡ [])
-            (λ letters. letters.now ≡ by_letter.now)) }
+        ensures letter_by_letter { IfOk result (λ ranks. MatchOption ranks.by_letter
+            (by_letter.now ≡ []) (λ letters. letters.now ≡ by_letter.now)) }
     {
         if !have_lengths(sizes, add.len(), by_letter.len()) {
             return Err(Refusal::Length);
         }
-        if !tables_are_right(sizes.n, sizes.r, sizes.leaves, add, by_letter) {
+        if !tables_are_right(sizes, add, by_letter) {
             return Err(Refusal::Ranks);
         }
         Ok(Ranks {

@@ -1,4 +1,5 @@
-ghost use Rattle.std.specs.Prelude.{◌≡◌, ◌+◌, true};
+//! The sizes of a lattice that is served.
+ghost use Rattle.std.specs.Prelude.{◌≡◌, ◌+◌, ◌*◌, true};
 ghost use Rattle.binomials.specs.Binomial.{binomial};
 ghost use Rattle.lattice.specs.Answers.{served};
 ghost use Rattle.lattice.specs.Tally.{start};
@@ -14,4 +15,14 @@ pub struct Sizes {
     pub ghost is_served: { served n r ≡ true },
     pub ghost starts: { leaves ≡ start n r },
     pub ghost counts: { len ≡ binomial (n + r) n },
+}
+
+impl Sizes {
+    /// How many entries a table of ranks has: one for each leave and letter.
+    #[inline]
+    pub fn entries(self) -> usize
+        ensures { result ≡ start self.n self.r * self.n }
+    {
+        self.leaves * self.n
+    }
 }

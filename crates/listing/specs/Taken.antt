@@ -22,11 +22,11 @@ numbers_of (Sizes f) = form_numbers f
 
 -- what follows the sizes
 abbrev pub body_of : Given → Body
-body_of g = record { pool = g.pool.items; entries = g.entries.items }
+body_of g = record { pool = g.form.pool.items; entries = g.form.entries.items }
 
 -- what a text gives, as a reading
 abbrev pub reading_as : Result Given Refusal → Reading
-reading_as (Ok g) = given g.n g.r (body_of g)
+reading_as (Ok g) = given g.form.n g.form.r (body_of g)
 reading_as (Err e) = refusal e
 
 -- after a text: the reader's state, and the numbers that the reader gave, each of which was taken

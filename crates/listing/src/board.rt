@@ -31,16 +31,17 @@ impl Board<'_> {
     ghost use Rattle.listing.specs.Listing.{Census};
     ghost use Rattle.listing.specs.Board.{board_lent};
 
-    // The three tables stay slices: they are lent, since the listing takes no heap.
     /// Fills num and den, which are +0.0, with the sums and counts of the leaves; and best with the
     /// best of each full rack.
+    // (C): the three tables stay slices, lent by the caller: the listing takes no heap.
     pub fn census(self, best: &mut [i32], num: &mut [f64], den: &mut [f64]) -> Result<(), Refusal>
         requires bests { length best.old ≡ cells_of self.n self.r }
         requires nums { length num.old ≡ cells_of self.n self.r }
         requires dens { length den.old ≡ cells_of self.n self.r }
         requires num_clear { Clear num.old }
         requires den_clear { Clear den.old }
-        ensures { Census (board_lent self.entry) best.old num.old den.old result best.new num.new den.new }
+        ensures { Census (board_lent self.entry) best.old num.old den.old result
+            best.new num.new den.new }
     {
         let lattice = Lattice {
             n: self.n,
@@ -65,6 +66,10 @@ impl Board<'_> {
     }
 }
 
+/// The longest lattice that the listing serves.
+// (C): the tables of a board are arrays of this length, since the listing takes no heap.
+pub const CELLS: usize = 512;
+
 /// The length of a lattice that the listing serves, which is at most 512.
 pub fn cells(n: usize, r: usize) -> Result<usize, Refusal>
     ensures ok { IfOk result (λ cells. (cells ≡ cells_of n r) × (0 < cells) × (cells ≤ 512)) }
@@ -72,7 +77,7 @@ pub fn cells(n: usize, r: usize) -> Result<usize, Refusal>
     ensures err { IfErr result (λ refusal. (refusal ≡ Refusal.Sizes) × (cells_of n r ≡ 0)) }
 {
     match (Lattice { n, r }).len() {
-        Ok(len) if len <= 512 => Ok(len as usize),
+        Ok(len) if len as usize <= CELLS => Ok(len as usize),
         _ => Err(Refusal::Sizes),
     }
 }

@@ -1,19 +1,21 @@
 //! The numbers of a listing's text: two sizes, then pool counts, then entries of sheet and leave.
 
-ghost use Rattle.std.specs.Prelude.{◌≡◌, ℕ, ◌+◌, ◌*◌, ◌<◌, ◌≤◌, List, [], ◌∷◌, ◌++◌, length, pos, IfOk, IfErr, OnOk};
+ghost use Rattle.std.specs.Prelude.{◌≡◌, ℕ, ◌+◌, ◌*◌, ◌<◌, ◌≤◌, List, [], ◌∷◌, ◌++◌, length, pos};
+ghost use Rattle.std.specs.Prelude.{IfOk, IfErr, OnOk};
 ghost use Rattle.std.proofs.Math.Option.{some};
 ghost use Rattle.listing.specs.Sizes.{cells_of};
 ghost use Rattle.listing.specs.Fits.{AreBytes, AreEntries};
 
-use crate::board::{Board, cells};
+use crate::board::{Board, CELLS, cells};
 use arrayvec::ArrayVec;
 use refusal::Refusal;
 
+// (C): both buffers are fixed memory, since the listing takes no heap.
 /// The most letters of a lattice, each with a pool count.
 pub const LETTERS: usize = 64;
 
 /// The most entries of sheet and leave together.
-pub const ENTRIES: usize = 1024;
+pub const ENTRIES: usize = 2 * CELLS;
 
 /// What is taken of a text that may still be accepted.
 #[derive(Drop)]
@@ -51,17 +53,9 @@ pub struct Form {
 /// of sheet and then of leave.
 #[derive(Drop)]
 pub struct Given {
-    pub n: usize,
-    pub r: usize,
-    /// How many entries sheet and leave have each.
-    pub cells: usize,
-    pub pool: ArrayVec<u8, LETTERS>,
-    pub entries: ArrayVec<i32, ENTRIES>,
-    pub ghost sized: { cells ≡ cells_of n r },
-    pub ghost served: { 0 < cells },
-    pub ghost few: { cells ≤ 512 },
-    pub ghost counts: { length pool.items ≡ n },
-    pub ghost values: { length entries.items ≡ cells * 2 },
+    pub form: Form,
+    pub ghost counts: { length form.pool.items ≡ form.n },
+    pub ghost values: { length form.entries.items ≡ form.cells * 2 },
 }
 
 impl Taken {
@@ -134,23 +128,10 @@ impl Form {
     pub fn finish(self) -> Result<Given, Refusal>
         ensures { reading_of (whole (form_numbers self)) ≡ reading_as result }
     {
-        let Form {
-            n,
-            r,
-            cells,
-            pool,
-            entries,
-        } = self;
-        if pool.len() < n || entries.len() < cells * 2 {
+        if self.pool.len() < self.n || self.entries.len() < self.cells * 2 {
             return Err(Refusal::Length);
         }
-        Ok(Given {
-            n,
-            r,
-            cells,
-            pool,
-            entries,
-        })
+        Ok(Given { form: self })
     }
 }
 
@@ -161,13 +142,14 @@ impl Given {
 
     /// The board that a text gives.
     pub fn board(&self) -> Board<'_>
-        ensures { board_lent result ≡ board_of self.now.n self.now.r (body_of self.now) }
+        ensures { board_lent result ≡ board_of self.now.form.n self.now.form.r (body_of self.now) }
     {
-        let (sheet, leave) = self.entries.as_slice().split_at(self.cells);
+        let form = &self.form;
+        let (sheet, leave) = form.entries.as_slice().split_at(form.cells);
         Board {
-            n: self.n,
-            r: self.r,
-            pool: self.pool.as_slice(),
+            n: form.n,
+            r: form.r,
+            pool: form.pool.as_slice(),
             sheet,
             leave,
         }

@@ -4,7 +4,8 @@ ghost use Rattle.std.specs.Prelude.{◌≡◌, ℕ, ◌<◌, ◌≤◌, List, le
 ghost use Rattle.std.specs.Io.KnownBytes.{Appends};
 ghost use Rattle.listing.specs.Reading.{reading};
 ghost use Rattle.listing.specs.Taken.{reading_as};
-ghost use Rattle.listing.specs.Listing.{AppendsPart, Listed, OnWhole, Printed, PrintedPart, Replied, listing_of, page_room};
+ghost use Rattle.listing.specs.Listing.{AppendsPart, Listed, OnWhole, Printed, PrintedPart};
+ghost use Rattle.listing.specs.Listing.{Replied, listing_of, page_room};
 
 use crate::form::Given;
 use crate::input::read_all;
@@ -15,6 +16,7 @@ use std::io::{ErrorKind, Read, Write};
 
 /// Puts the listing of a text into a buffer, and gives where it ends. A buffer with less room than
 /// the longest page takes is left as it was, and the answer is 0.
+// (C): the buffer is lent; 0 is no end of a listing, since each has a line.
 pub fn list(text: &[u8], out: &mut [u8]) -> usize
     ensures listed { page_room ≤ length out.old → Listed text.now out.old out.new result }
     ensures small { length out.old < page_room → (out.new ≡ out.old) × (result ≡ 0) }
@@ -58,7 +60,8 @@ pub fn print<R: Read, W: Write>(reader: &mut R, writer: &mut W) -> io::Result<()
 /// Puts what is printed for what a text gives into a buffer, and gives where it ends.
 pub fn respond(given: &Result<Given, Refusal>, out: &mut [u8]) -> usize
     requires { page_room ≤ length out.old }
-    ensures { (text : List ℕ) → reading text ≡ reading_as given.now → Listed text out.old out.new result }
+    ensures { (text : List ℕ) → reading text ≡ reading_as given.now
+        → Listed text out.old out.new result }
 {
     let page = page_of(given);
     let end = page.len();
@@ -66,11 +69,13 @@ pub fn respond(given: &Result<Given, Refusal>, out: &mut [u8]) -> usize
     end
 }
 
-/// Writes a page, as `write_all` does, and says more: where a write fails, its start is written. A
-/// proved loop has to end, so the writes are counted up to a number that no run reaches.
+/// Writes a page, as `write_all` does, and says more: where a write fails, its start is written.
+// Counted (P): a proved loop has to end, so the writes are counted up to a number that no run
+// reaches.
 fn write_page<W: Write>(writer: &mut W, page: &[u8]) -> io::Result<()>
     ensures ok { OnOk result (Appends (W.contents writer.old) (W.contents writer.new) page.now) }
-    ensures err { OnErr result (AppendsPart (W.contents writer.old) (W.contents writer.new) page.now) }
+    ensures err { OnErr result
+        (AppendsPart (W.contents writer.old) (W.contents writer.new) page.now) }
 {
     let mut rest = page;
     for _ in 0..u64::MAX {

@@ -28,8 +28,10 @@ impl Session {
 
     /// Takes one byte more. A text that is refused is refused whatever follows.
     pub fn push(&mut self, byte: u8) -> Result<(), Refusal>
-        ensures ok { (text : List ℕ) → SoFar text self.old → OnOk result (SoFar (text ++ byte ∷ []) self.new) }
-        ensures err { (text : List ℕ) → SoFar text self.old → IfErr result (IsRefused (text ++ byte ∷ [])) }
+        ensures ok { (text : List ℕ) → SoFar text self.old
+            → OnOk result (SoFar (text ++ byte ∷ []) self.new) }
+        ensures err { (text : List ℕ) → SoFar text self.old
+            → IfErr result (IsRefused (text ++ byte ∷ [])) }
     {
         match self.reader.push(byte) {
             Ok(None) => Ok(()),
@@ -40,8 +42,10 @@ impl Session {
 
     /// Takes a part of a text.
     pub fn feed(&mut self, bytes: &[u8]) -> Result<(), Refusal>
-        ensures ok { (text : List ℕ) → SoFar text self.old → OnOk result (SoFar (text ++ bytes.now) self.new) }
-        ensures err { (text : List ℕ) → SoFar text self.old → IfErr result (IsRefused (text ++ bytes.now)) }
+        ensures ok { (text : List ℕ) → SoFar text self.old
+            → OnOk result (SoFar (text ++ bytes.now) self.new) }
+        ensures err { (text : List ℕ) → SoFar text self.old
+            → IfErr result (IsRefused (text ++ bytes.now)) }
     {
         for &byte in bytes {
             self.push(byte)?;

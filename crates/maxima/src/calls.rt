@@ -16,13 +16,14 @@ pub fn subset_max_transform(
     src: &[i32],
     dst: &mut [i32],
 ) -> Result<(), Refusal>
-    ensures { SubsetMaxed lat.n lat.r add.now by_letter.now src.now dst.old (number_of result) dst.new }
+    ensures { SubsetMaxed lat.n lat.r add.now by_letter.now src.now dst.old
+        (number_of result) dst.new }
 {
     let sizes = lat.sizes()?;
     if src.len() != sizes.len || dst.len() != sizes.len {
         return Err(Refusal::Length);
     }
     let ranks = Ranks::judge(sizes, add, by_letter)?;
-    subset_max(&ranks, src, dst);
+    subset_max(sizes.n, sizes.r, sizes.leaves, ranks.add, src, dst);
     Ok(())
 }

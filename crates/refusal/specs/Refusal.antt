@@ -1,6 +1,6 @@
 -- The number of a refusal, and of a call's answer. Assumes nothing.
 use Rattle.std.specs.Prelude.{◌≡◌, refl, ℕ, Result, Ok, Err}
-use Rattle.std.proofs.Common.{arith}
+use Rattle.std.proofs.Common.{◌∙◌, ap, arith, cond, nat_eq, sym}
 use Rattle.refusal.specs.declared.Refusal.{Refusal}
 use Rattle.refusal.specs.declared.Refusal.TheVariants.{Sizes, Length, Letter, Range, Entry, Ranks, Scatter, NotClear, Weight}
 
@@ -27,6 +27,25 @@ code_some Ranks z = omega arith
 code_some Scatter z = omega arith
 code_some NotClear z = omega arith
 code_some Weight z = omega arith
+
+-- the refusal of a number
+abbrev refusal_of : ℕ → Refusal
+refusal_of n = cond (nat_eq n 1) Sizes (cond (nat_eq n 2) Length (cond (nat_eq n 3) Letter (cond (nat_eq n 4) Range (cond (nat_eq n 5) Entry (cond (nat_eq n 6) Ranks (cond (nat_eq n 7) Scatter (cond (nat_eq n 8) NotClear Weight)))))))
+
+refusal_again : (refusal : Refusal) → refusal_of (code_of refusal) ≡ refusal
+refusal_again Sizes = refl
+refusal_again Length = refl
+refusal_again Letter = refl
+refusal_again Range = refl
+refusal_again Entry = refl
+refusal_again Ranks = refl
+refusal_again Scatter = refl
+refusal_again NotClear = refl
+refusal_again Weight = refl
+
+-- a number is that of one refusal alone
+pub code_one : (a b : Refusal) → code_of a ≡ code_of b → a ≡ b
+code_one a b same = sym (refusal_again a) ∙ ap refusal_of same ∙ refusal_again b
 
 -- the number of an answer: 0 where the call is accepted
 abbrev pub number_of : {A : Type 0} → Result A Refusal → ℕ

@@ -12,24 +12,24 @@ use std::fmt;
 #[derive(Clone, Copy, Debug, PartialEq, Eq, Hash)]
 pub enum Refusal {
     /// n is not 1 to 64, r not 1 to 15, or the lattice has more than 4,294,967,294 multisets.
-    Sizes,
+    Sizes = 1,
     /// A slice has a wrong length.
-    Length,
+    Length = 2,
     /// A letter is not below n, a blank stands among placed tiles, or sparse letters do not ascend.
-    Letter,
+    Letter = 3,
     /// Too many tiles, or a size, a rank or a number of rows out of range.
-    Range,
+    Range = 4,
     /// An entry or a score is beyond ±536,870,911, or a drop beyond ±16,777,215.
-    Entry,
+    Entry = 5,
     /// A table of ranks is not its lattice's.
-    Ranks,
+    Ranks = 6,
     /// Scatter is in force, and an entry of sheet is negative, the sheet's first entry is not 0, or
     /// leave_max is not leave's subset maximum.
-    Scatter,
+    Scatter = 7,
     /// num, den or ways is not +0.0 throughout.
-    NotClear,
+    NotClear = 8,
     /// The weight is above 2^53, so that the sums might not be exact.
-    Weight,
+    Weight = 9,
 }
 
 /// The number of a refusal, from 1; 0 stands for an accepted call.
@@ -37,20 +37,11 @@ impl From<Refusal> for u8 {
     ghost from_gives = { λ refusal number. number ≡ code_of refusal };
 
     fn from(refusal: Refusal) -> u8 {
-        match refusal {
-            Refusal::Sizes => 1,
-            Refusal::Length => 2,
-            Refusal::Letter => 3,
-            Refusal::Range => 4,
-            Refusal::Entry => 5,
-            Refusal::Ranks => 6,
-            Refusal::Scatter => 7,
-            Refusal::NotClear => 8,
-            Refusal::Weight => 9,
-        }
+        refusal as u8
     }
 }
 
+// By hand (N): for nine texts the crate would take a library.
 impl fmt::Display for Refusal {
     fn fmt<W: fmt::Write>(&self, f: &mut fmt::Formatter<W>) -> fmt::Result {
         f.write_str(match self {

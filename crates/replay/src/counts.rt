@@ -23,6 +23,7 @@ impl Tally {
         *count = count.saturating_add(1);
     }
 
+    // By a name (N): it saturates, which a `+` does not say.
     fn plus(self, other: Tally) -> Tally {
         Tally {
             agreed: self.agreed.saturating_add(other.agreed),
@@ -46,12 +47,14 @@ impl fmt::Display for Tally {
     }
 }
 
-/// The tallies of all calls, by their numbers: those of the format are below 63, and the last is
-/// of what is none of them.
+/// The tallies of all records, by their first numbers: each number below 63 has a tally, also one
+/// that no call has, and the last is of what has none or a greater one.
+// By number (N): a map from `Call` could fail to grow, and the numbers that no call has would be
+// counted apart from it.
 #[derive(Clone, Copy, Debug)]
 pub struct Counts([Tally; 64]);
 
-/// Where a call is counted, by its number; what is no call has none.
+/// Where a record is counted, by its first number, if it has one.
 fn slot(number: Option<u64>) -> usize
     ensures { result ≤ 63 }
 {

@@ -19,7 +19,7 @@ use Rattle.scatter.specs.Every.{IsScatter}
 
 -- ---- the scatter
 
--- "Scatter starts from leave_max. A full rack R then gets .."
+-- "It starts from leave_max, leave's subset maximum. A full rack R then gets .."
 unfoldable pub scatter_table : List ℤ → List ℤ → List ℤ → List ℕ → ℕ → List ℤ
 scatter_table sheet leave leave_max pool r =
     map (λ R. cond (total R == r) (scatter_at sheet leave pool (length pool) leave_max R) (at_ℤ leave_max (rank_of (length pool) R))) (lattice (length pool) r)

@@ -3,7 +3,7 @@
 ghost use Rattle.std.specs.Prelude.{◌≡◌, ◌+◌, ◌-◌, ◌≤◌, length};
 ghost use Rattle.lattice.specs.Tally.{total};
 
-use search::{rank_step, wide};
+use search::rank_step;
 
 /// A number for each letter, and one past the last. Of fixed size (C): the calls have no heap.
 pub type Row = [usize; 65];
@@ -11,7 +11,7 @@ pub type Row = [usize; 65];
 /// What is read where the last one or two tiles to be kept are all of one letter, or one of them
 /// is: what the letters before it add to the rack's rank, of which none is kept; the same with one
 /// of the letter kept; and what the whole rack gains with all of them of the letter.
-#[derive(Clone, Copy, Debug, PartialEq, Eq)]
+#[derive(Clone, Copy, Debug, PartialEq, Eq, Default)]
 pub struct Last {
     pub none: Row,
     pub once: Row,
@@ -20,7 +20,7 @@ pub struct Last {
 
 /// From each letter on: the play's tiles, what they add to a rank, and how many tiles may be kept.
 /// And the same for the last tile to be kept, and for the last two.
-#[derive(Clone, Copy, Debug, PartialEq, Eq)]
+#[derive(Clone, Copy, Debug, PartialEq, Eq, Default)]
 pub struct Plan {
     pub rest: Row,
     pub tail: Row,
@@ -32,14 +32,6 @@ pub struct Plan {
 impl Last {
     ghost use Rattle.scatter.specs.Ready.{Tails, Lasts};
 
-    pub fn empty() -> Last {
-        Last {
-            none: [0; 65],
-            once: [0; 65],
-            whole: [0; 65],
-        }
-    }
-
     /// For the last s tiles of a play's racks, where `rest` and `tail` are those of its plan.
     pub fn fill(&mut self, tally: &[u8], rest: &Row, tail: &Row, s: usize)
         requires letters { length tally.now ≤ 64 }
@@ -50,10 +42,10 @@ impl Last {
     {
         let n = tally.len();
         let mut none = 0;
-        // Three rows at once, written by index (P), as the sums below.
+        // By index (N): three rows are written at once, and two more read.
         for t in 0..n {
             let after = n - 1 - t;
-            let own = wide(tally[t]);
+            let own = usize::from(tally[t]);
             let left = rest[t] + s;
             let once = none + rank_step(after, left, own + 1);
             let whole = none + rank_step(after, left, own + s) + tail[t + 1];
@@ -69,16 +61,6 @@ impl Last {
 impl Plan {
     ghost use Rattle.scatter.specs.Ready.{Sums, Planned};
 
-    pub fn empty() -> Plan {
-        Plan {
-            rest: [0; 65],
-            tail: [0; 65],
-            room: [0; 65],
-            one: Last::empty(),
-            two: Last::empty(),
-        }
-    }
-
     /// The sums from each letter on, from the last letter back.
     fn sum(&mut self, tally: &[u8], caps: &[u8])
         requires same { length tally.now ≡ length caps.now }
@@ -93,12 +75,13 @@ impl Plan {
         self.rest[n] = rest;
         self.tail[n] = tail;
         self.room[n] = room;
+        // By index (N): three rows are written at once.
         for i in 0..n {
             let t = n - 1 - i;
-            let own = wide(tally[t]);
+            let own = usize::from(tally[t]);
             rest += own;
             tail += rank_step(i, rest, own);
-            room += wide(caps[t]);
+            room += usize::from(caps[t]);
             self.rest[t] = rest;
             self.tail[t] = tail;
             self.room[t] = room;

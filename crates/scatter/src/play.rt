@@ -7,7 +7,7 @@ ghost use Rattle.scatter.specs.Ready.{Small, Planned, is_prop-Small};
 
 use crate::plan::Plan;
 use maxima::raise;
-use search::{rank_step, size_start, smaller, wide};
+use search::{rank_step, size_start};
 
 /// A play: its worth and its tally, the values of the leaves by rank, of each letter how many may
 /// be kept beside it, how many tiles are kept, and its plan.
@@ -41,7 +41,8 @@ impl<'a> Play<'a> {
         raise(best, r, worth);
     }
 
-    // Recursion on plain numbers, and wrapping steps at the last one and two tiles, stay (C).
+    // A walk that recurses, and steps that wrap at the last one and two tiles (C):
+    // docs/DECISIONS.md, "Forms".
 
     /// As walk, where one tile is still to be kept: each letter u that may be kept completes what
     /// is kept. The rack's rank gains what the letters from t to u add, of which none is kept, and
@@ -52,6 +53,7 @@ impl<'a> Play<'a> {
     {
         let n = self.tally.len();
         let base = r.wrapping_sub(self.plan.one.none[t]);
+        // By number (N): it gives the letter's step and its row.
         for u in t..n {
             if 0 < self.caps[u] {
                 let kept = k + rank_step(n - 1 - u, 1, 1);
@@ -69,6 +71,7 @@ impl<'a> Play<'a> {
     {
         let n = self.tally.len();
         let base = r.wrapping_sub(self.plan.two.none[t]);
+        // By number (N): it gives the letter's step, its row and the next letter.
         for u in t..n {
             if 0 < self.caps[u] {
                 let after = n - 1 - u;
@@ -98,9 +101,9 @@ impl<'a> Play<'a> {
             self.last_two(t, k, r, best);
         } else if s <= self.plan.room[t] {
             let after = self.tally.len() - 1 - t;
-            let own = wide(self.tally[t]);
+            let own = usize::from(self.tally[t]);
             let left = self.plan.rest[t] + s;
-            let most = smaller(wide(self.caps[t]), s);
+            let most = usize::from(self.caps[t]).min(s);
             for c in 1..=most {
                 let kept = k + rank_step(after, s, c);
                 let rack = r + rank_step(after, left, own + c);

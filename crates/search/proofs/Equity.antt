@@ -11,11 +11,11 @@ use Rattle.lattice.specs.Tally.{total}
 use Rattle.search.specs.Counts.{at_most}
 use Rattle.search.specs.Split.{best_split, parts_small, Held}
 use Rattle.search.specs.Refusals.{or_else, or_first, sizes_number, entries_number, rack_number, Sized, sized, entries_0, entries_5, within_length}
-use Rattle.search.specs.Answers.{given, given_refused, code_some, best_value, Answered}
-use Rattle.refusal.specs.Refusal.{code_of}
+use Rattle.search.specs.Answers.{given, given_refused, best_value, Answered}
+use Rattle.refusal.specs.Refusal.{code_of, code_some}
 use Rattle.refusal.specs.declared.Refusal.{Refusal}
 use Rattle.refusal.specs.declared.Refusal.TheVariants.{Entry}
-use Rattle.std.specs.Prelude.{Result, Ok, Err}
+use Rattle.std.specs.Prelude.{Option, Some, None, Result, Ok, Err, SomeIff, ok_or}
 use Rattle.whole.specs.Mean.{unplayable}
 
 -- what the search asks
@@ -65,3 +65,7 @@ module _ (n r : ℕ) (sheet leave : List ℤ) (t : List ℕ) where
     pub rack_beyond : (parts_small sheet leave (length t) t ≡ true → ⊥) → Answered (rack_number n r sheet leave t) (best_split sheet leave n t) (Err Entry)
     unfolding rack_number or_else
     rack_beyond beyond = refused Entry refl (sym (ap₂ or_else none (entries_5 sheet leave n t (parts_here (not_true _ beyond)))))
+
+    pub rack_answer : (o : Option ℤ) → SomeIff o (parts_small sheet leave (length t) t ≡ true) (best_split sheet leave (length t) t) → Answered (rack_number n r sheet leave t) (best_split sheet leave n t) (ok_or o Entry)
+    rack_answer (Some v) s = rack_found s.0 s.1
+    rack_answer None f = rack_beyond f

@@ -13,8 +13,8 @@ use Rattle.search.specs.Counts.{at_most}
 use Rattle.search.specs.Keep.{KeepReady}
 use Rattle.search.specs.Refusals.{Sized, within_length}
 use Rattle.search.specs.BestKeep.{no_leave, best_keep}
-use Rattle.search.specs.Answers.{given, given_refused, code_some, leave_given, keep_value, KeepAnswered}
-use Rattle.refusal.specs.Refusal.{code_of}
+use Rattle.search.specs.Answers.{given, given_refused, leave_given, keep_value, KeepAnswered}
+use Rattle.refusal.specs.Refusal.{code_of, code_some}
 use Rattle.refusal.specs.declared.Refusal.{Refusal}
 use Rattle.std.specs.Prelude.{Option, Result, Ok, Err}
 use Rattle.search.specs.Results.{PartOf, rank_given, keep_attained}

@@ -18,14 +18,14 @@ use Rattle.search.specs.Naive.{played_of, played_first, first_unique}
 use Rattle.search.specs.NaiveWalk.{FoundFirst, first_best, naive_first}
 use Rattle.search.specs.NaiveKept.{KeptAfter, LeaveReady}
 use Rattle.search.specs.Refusals.{or_else, or_first, entries_number, entries_0, entries_5, naive_sizes, naive_number, naive_sized}
-use Rattle.search.specs.Answers.{given, given_refused, code_some, word, exchange, move_value, kind_of, move_kind, refusal, Played}
+use Rattle.search.specs.Answers.{given, given_refused, word, exchange, move_value, kind_of, move_kind, refusal, Played}
 use Rattle.search.specs.declared.Kept.{Kept}
 use Rattle.search.specs.declared.calls.Play.{Play}
 use Rattle.search.specs.declared.calls.Kind.TheVariants.{Word, Exchange}
-use Rattle.refusal.specs.Refusal.{code_of}
+use Rattle.refusal.specs.Refusal.{code_of, code_some, number_of}
 use Rattle.refusal.specs.declared.Refusal.{Refusal}
 use Rattle.refusal.specs.declared.Refusal.TheVariants.{Entry}
-use Rattle.std.specs.Prelude.{Result, Ok, Err}
+use Rattle.std.specs.Prelude.{Option, Some, None, Result, Ok, Err, MatchOption, ok_or}
 
 -- the best is above the value of what is kept exactly where the sheet's entry is above 0
 above_kept : (x y : ℤ) → lt_z y (x +ℤ y) ≡ lt_z (pos 0) x
@@ -33,6 +33,11 @@ above_kept x y =
     T-ext (lt_z y (x +ℤ y)) (lt_z (pos 0) x)
     (λ h. (parts-<ℤ (pos 0) x (omega (arith, <ℤ-parts {a = y} {b = x +ℤ y} (lt_z_yes h), +ℤ-parts x y))).lt)
     (λ h. (parts-<ℤ y (x +ℤ y) (omega (arith, <ℤ-parts {a = pos 0} {b = x} (lt_z_yes h), +ℤ-parts x y))).lt)
+
+-- the refusal of an answer, where it has one
+refusal_of : Result Kept Refusal → Refusal
+refusal_of (Ok f) = Entry
+refusal_of (Err e) = e
 
 -- the kind of a play
 kind_told : (c : Bool) → kind_of (cond c Word Exchange) ≡ cond c word exchange
@@ -88,6 +93,11 @@ module _ (n r : ℕ) (sheet leave : List ℤ) (t entry : List ℕ) where
     unfolding naive_number or_else
     naive_beyond h =
         refused Entry refl (sym (ap₂ or_else none (entries_5 sheet leave n t (subst (λ (k : ℕ). parts_small sheet leave k t ≡ false) letters h))))
+
+    pub naive_refused : (o : Option Kept) {e : Refusal} → MatchOption o (parts_small sheet leave (length t) t ≡ false) (FoundFirst sheet leave (length t) t) → Err e ≡ ok_or o Entry → Played n r sheet leave t entry (Err e) entry
+    unfolding refusal_of
+    naive_refused (Some f) {e = e} m q = absurd (code_some e (ap number_of q))
+    naive_refused None {e = e} m q = let same : e ≡ Entry = ap refusal_of q in rw same (naive_beyond m)
 
     module _ {f : Kept} (g : FoundFirst sheet leave (length t) t f) where
       found_here : FoundFirst sheet leave n t f

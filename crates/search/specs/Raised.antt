@@ -1,6 +1,6 @@
 -- Runs: entries that a walk raises together, each by values of its own. Assumes nothing.
 use Rattle.std.specs.Prelude.{◌≡◌, refl, true, ◌⊎◌, List, ℕ, suc, ◌+◌, ◌-◌, ◌≤◌, ◌<◌, ℤ, pos, nat_abs, length, get_or, take, set}
-use Rattle.std.proofs.Common.{sym, ap, ◌∙◌, subst, ⊎_elim, eq-or-lt_of_le, le_refl, arith, le-leb, length-set, get_or-set_same, get_or-set_other}
+use Rattle.std.proofs.Common.{sym, ◌∙◌, subst, ⊎_elim, eq-or-lt_of_le, le_refl, arith, le-leb, length-set, get_or-set_same, get_or-set_other}
 use Rattle.laws.specs.Greatest.{Greatest, greatest_none, greatest_join, Below, below_more, ℤ-order}
 use Rattle.laws.specs.Integer.{at_ℤ}
 use Rattle.whole.specs.Mean.{unplayable}
@@ -81,39 +81,6 @@ module _ {P : ℕ → ℤ → Type 0} {entry : List ℤ} where
 pub record Cleared (entry exit : List ℤ) : Type 0 where
   pub size : length exit ≡ length entry
   pub each : (j : ℕ) → j < length entry → at_ℤ exit j ≡ unplayable
-
--- the entries below i did
-pub record ClearedTo (entry : List ℤ) (i : ℕ) (run : List ℤ) : Type 0 where
-  pub size : length run ≡ length entry
-  pub done : (j : ℕ) → j < i → at_ℤ run j ≡ unplayable
-
-module _ {entry : List ℤ} where
-  pub cleared_none : ClearedTo entry 0 entry
-  cleared_none = record { size = refl; done = λ j h. absurd (none j h) }
-    where
-      none : (j : ℕ) → j < 0 → ⊥
-      none j h = omega arith
-
-  pub cleared_more : {i : ℕ} {run : List ℤ} {v : ℤ} → i < length entry → ClearedTo entry i run → v ≡ unplayable → ClearedTo entry (i + 1) (set run i v)
-  cleared_more {i} {run} {v} inside p e = record { size = length-set run i v ∙ p.size; done = λ j h. go j (less j h) }
-    where
-      less : (j : ℕ) → j < i + 1 → j ≤ i
-      less j h = omega arith
-
-      below : (j : ℕ) → j < i → j ≡ i → ⊥
-      below j h q = omega arith
-
-      go : (j : ℕ) → j ≤ i → at_ℤ (set run i v) j ≡ unplayable
-      go j h =
-          ⊎_elim (λ (q : j ≡ i). ap (at_ℤ (set run i v)) q ∙ get_or-set_same run i v (pos 0) (omega (arith, p.size)) ∙ e)
-          (λ l. get_or-set_other run i j v (pos 0) (below j l) ∙ p.done j l)
-          (eq-or-lt_of_le h)
-
-  pub cleared_all : {i : ℕ} {run : List ℤ} → length entry ≤ i → ClearedTo entry i run → Cleared entry run
-  cleared_all {i} h p = record { size = p.size; each = λ j l. p.done j (inside j l) }
-    where
-      inside : (j : ℕ) → j < length entry → j < i
-      inside j l = omega arith
 
 -- ---- one raise after another
 

@@ -117,6 +117,25 @@ module _ (n r sheet leave : ℕ) (t : List ℕ) where
         go false b = refl
         go true b = refl
 
+    pub sizes_1 : sizes_number n r sheet leave t ≡ 1 → naive_sizes n r sheet leave t kept ≡ 1
+    unfolding sizes_number naive_sizes
+    sizes_1 = go (served n r) (lengths n r sheet leave t) (eqb kept n) (leb (total t) r)
+      where
+        go : (a l k b : Bool) → ◌≡◌ {A = ℕ} (cond a (cond l (cond b 0 4) 2) 1) 1 → ◌≡◌ {A = ℕ} (cond a (cond (l && k) (cond b 0 4) 2) 1) 1
+        go false l k b e = refl
+        go true false k b e = absurd (omega (arith, e))
+        go true true k false e = absurd (omega (arith, e))
+        go true true k true e = absurd (omega (arith, e))
+
+    pub sizes_2 : (sizes_number n r sheet leave t ≡ 1 → ⊥) → (kept ≡ n → ⊥) → naive_sizes n r sheet leave t kept ≡ 2
+    unfolding sizes_number naive_sizes
+    sizes_2 f g = rw (ne_eqb kept n g) (go (served n r) (lengths n r sheet leave t) (leb (total t) r) f)
+      where
+        go : (a l b : Bool) → (◌≡◌ {A = ℕ} (cond a (cond l (cond b 0 4) 2) 1) 1 → ⊥) → ◌≡◌ {A = ℕ} (cond a (cond (l && false) (cond b 0 4) 2) 1) 2
+        go false l b f = absurd (f refl)
+        go true false b f = refl
+        go true true b f = refl
+
     pub sizes_same : kept ≡ n → sizes_number n r sheet leave t ≡ naive_sizes n r sheet leave t kept
     unfolding sizes_number naive_sizes
     sizes_same e = rw (eq-eqb kept n e) (go (served n r) (lengths n r sheet leave t) (leb (total t) r))

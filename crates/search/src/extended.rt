@@ -5,10 +5,10 @@ ghost use Rattle.std.specs.Prelude.{◌≡◌, ◌≢◌, suc, ◌+◌, ◌-◌,
 ghost use Rattle.laws.specs.Greatest.{Greatest, Below};
 ghost use Rattle.search.specs.Split.{guarded, Bounded, Whole, Worths, worth_at};
 ghost use Rattle.runs.specs.Runs.{present};
-ghost use Rattle.search.specs.Raised.{Summed, Raised, Cleared, RunReady};
+ghost use Rattle.search.specs.Raised.{Summed, Raised, RunReady};
 ghost use Rattle.search.specs.Extended.{Extending, Counted, Extended};
 
-use crate::{Place, rank_step, size_start, wide};
+use crate::{Place, rank_step, size_start};
 use runs::Runs;
 use whole::UNPLAYABLE;
 
@@ -17,8 +17,7 @@ fn raised(entry: i32, a: i32, b: i32) -> i32
     requires { Summed a b }
     ensures { Greatest entry (λ v. v ≡ guarded a b) result }
 {
-    let v = a + b;
-    if entry < v { v } else { entry }
+    entry.max(a + b)
 }
 
 /// Each entry of a run becomes the greater of itself and of the sum of a's entry as far after `at`,
@@ -33,9 +32,9 @@ fn raise_run(a: &[i32], b: &[i32], at: usize, to: usize, run: &mut [i32])
         run.old run.new }
 {
     let x = b[to];
-    for i in 0..run.len() {
-        let was = run[i];
-        run[i] = raised(was, a[at + i], x);
+    // By index (P): of entries lent through `zip` a proof knows none.
+    for (i, entry) in run.iter_mut().enumerate() {
+        *entry = raised(*entry, a[at + i], x);
     }
 }
 
@@ -59,6 +58,7 @@ fn raise_worths(a: &[i32], b: &[i32], n: usize, part: Place, other: Place, run: 
 /// Each entry of a run becomes the greatest of itself and of the worth of every split of the runs
 /// of tiles, where the letters after them are split already, into a part of a's side and one of
 /// b's. At each entry after the run's first, one tally more comes before the part of a's side.
+// Beside Tables::best (N): where a split is whole it raises a run, and no best is handed on.
 fn raise_splits(a: &[i32], b: &[i32], runs: Runs, part: Place, other: Place, run: &mut [i32])
     requires { RunReady a.now b.now runs.tally.now runs.stop part.tiles part.before
         other.tiles other.before (length run.old) }
@@ -73,29 +73,21 @@ fn raise_splits(a: &[i32], b: &[i32], runs: Runs, part: Place, other: Place, run
         None => raise_worths(a, b, runs.tally.len(), part, other, run),
         Some((last, before)) => {
             let m = runs.tally.len() - last.stop;
+            // A loop of its own (S): the counts of the first letter make no call.
             if before.is_empty() {
-                for count in 0..last.count + 1 {
+                for count in 0..=last.count {
                     let p = part.with(m, count);
                     let q = other.with(m, last.count - count);
                     raise_worths(a, b, runs.tally.len(), p, q, run);
                 }
                 return;
             }
-            for count in 0..last.count + 1 {
+            for count in 0..=last.count {
                 let p = part.with(m, count);
                 let q = other.with(m, last.count - count);
                 raise_splits(a, b, before, p, q, run);
             }
         }
-    }
-}
-
-/// Every entry of a run becomes UNPLAYABLE, which is below every worth.
-fn clear(run: &mut [i32])
-    ensures { Cleared run.old run.new }
-{
-    for i in 0..run.len() {
-        run[i] = UNPLAYABLE;
     }
 }
 
@@ -109,7 +101,7 @@ fn raise_both(sheet: &[i32], leave: &[i32], runs: Runs, stop: usize, x: usize, r
         run.old run.new }
 {
     let m = runs.tally.len() - stop;
-    let y = wide(runs.tally[stop - 1]) - x;
+    let y = usize::from(runs.tally[stop - 1]) - x;
     let part = Place {
         tiles: x + 1,
         before: rank_step(m, x + 1, x),
@@ -131,18 +123,21 @@ fn raise_extensions(sheet: &[i32], leave: &[i32], tally: &[u8], stop: usize, run
         run.old run.new }
 {
     let runs = Runs::first(tally, stop - 1);
-    let count = wide(tally[stop - 1]);
-    for x in 0..count + 1 {
+    let count = usize::from(tally[stop - 1]);
+    for x in 0..=count {
         raise_both(sheet, leave, runs, stop, x, run);
     }
 }
 
 /// The best split of every rack that extends a leave, whose letters end at `stop`: one entry of the
 /// run for each, by rank.
+// Sheet, leave, tally and stop are handed on with their fact (N): a struct of them would be made
+// anew for each leave, since its tally is written between.
 pub fn best_extensions(sheet: &[i32], leave: &[i32], tally: &[u8], stop: usize, run: &mut [i32])
     requires { Extending sheet.now leave.now tally.now stop (length run.old) }
     ensures { Extended sheet.now leave.now tally.now run.old run.new }
 {
-    clear(run);
+    // Below every worth.
+    run.fill(UNPLAYABLE);
     raise_extensions(sheet, leave, tally, stop, run);
 }

@@ -182,6 +182,14 @@ module _ {t : List ℕ} {i numbers c k : ℕ} (h : Spreads t (suc i) numbers) (e
         inside = omega (arith, at_most_mono (le_refl n) tiles, h.inside);
       }
 
+  -- what that letter adds has 32 bits
+  pub last_fits : {s : ℕ} → c ≤ s → s ≤ 1 + c → step (length t - i - 1) s c ≤ 4294967294
+  last_fits {s} a b =
+      let m = length t - i - 1 in
+      let letters : m ≤ length t = omega arith in
+      let tiles : s ≤ suc (total t) = omega (arith, tiles_before) in
+      omega (arith, step_counts m s c, count_is m s, at_most_mono letters tiles, h.inside)
+
 -- ---- the marks of the walk
 
 -- one turn of the walk

@@ -1,7 +1,7 @@
 -- The running binomial of a pool's weight, which stops above 2 ^ 53. Assumes nothing.
 use mathlib.Core.Path.{◌≡◌, sym, ap₂, ◌∙◌}
 use Prim.Native.Nat.{ℕ, ◌+◌, ◌-◌, ◌*◌, ◌/◌, ◌≤◌, ◌<◌}
-use native.Mathlib.Nat.{le_trans, lt_of_not-le, mul-le-mul, le-div_iff_mul-le, div-lt_iff_lt-mul, div-eq_of_eq-mul_left}
+use native.Mathlib.Nat.{le_trans, lt_of_not-le, mul-le-mul, div-eq_of_eq-mul_left}
 use native.Mathlib.Numerals.{add-one}
 use native.Mathlib.Decide.{dec_le}
 use native.Mathlib.Omega.{arith}
@@ -29,19 +29,13 @@ module _ (n : ℕ) {j m b : ℕ} (few : j + 1 ≤ 15) (inside : j < n) (m-is : m
   some_left : 0 < m
   some_left = omega arith
 
-  pub product_fits : b ≤ 9223372036854775808 / m → b * m ≤ 9223372036854775808
-  product_fits h = (le-div_iff_mul-le some_left).0 h
-
   pub turn_is : b * m / (j + 1) ≡ binomial n (j + 1)
   turn_is = div-eq_of_eq-mul_left (omega arith) (sym next)
 
   -- a product that does not fit is that of a binomial above the limit
-  pub product_over : 9223372036854775808 / m < b → 9007199254740992 < binomial n (j + 1)
+  pub product_over : (b * m < 18446744073709551616 → ⊥) → 9007199254740992 < binomial n (j + 1)
   product_over h = by (dec_le (binomial n (j + 1)) 9007199254740992)
     where
-      big : 9223372036854775808 < b * m
-      big = (div-lt_iff_lt-mul some_left).0 h
-
       by : Dec (binomial n (j + 1) ≤ 9007199254740992) → 9007199254740992 < binomial n (j + 1)
       by (no g) = lt_of_not-le g
-      by (yes g) = absurd (omega (arith, mul-le-mul g few, next, big))
+      by (yes g) = absurd (h (omega (arith, mul-le-mul g few, next)))

@@ -1,6 +1,6 @@
 -- The largest absolute entry of a table, and what it bounds. Assumes nothing.
-use Rattle.std.specs.Prelude.{◌≡◌, refl, Bool, true, false, ◌&&◌, List, [], ◌∷◌, ◌++◌, ℕ, zero, suc, ◌+◌, ◌≤◌, max, leb, ℤ}
-use Rattle.std.proofs.Common.{sym, ap, ◌∙◌, leb-true, leb-false, le-leb, le_of_eq, arith}
+use Rattle.std.specs.Prelude.{◌≡◌, refl, Bool, true, false, ◌&&◌, List, [], ◌∷◌, ◌++◌, ℕ, zero, suc, ◌+◌, ◌≤◌, ◌<◌, max, leb, ℤ, pos, length, take}
+use Rattle.std.proofs.Common.{sym, ap, ◌∙◌, leb-true, leb-false, le-leb, take-suc, le_of_eq, add-one, arith}
 use Rattle.std.proofs.lemmas.Bool.{lt-leb}
 use Rattle.std.proofs.Math.IntN.{nat_abs}
 use Rattle.std.proofs.Math.Nat.{le_trans}
@@ -28,6 +28,15 @@ largest_snoc : (xs : List ℤ) (x : ℤ) → largest (xs ++ (x ∷ [])) ≡ max 
 unfolding largest
 largest_snoc [] x = omega arith
 largest_snoc (y ∷ ys) x = let e = largest_snoc ys x in omega arith
+
+-- of the first entries, one more
+pub largest_none : (xs : List ℤ) → 0 ≡ largest (take 0 xs)
+unfolding largest
+largest_none xs = refl
+
+pub largest_more : (xs : List ℤ) (i : ℕ) {a b : ℕ} → i < length xs → a ≡ largest (take i xs) → b ≡ max a (nat_abs (at_ℤ xs i)) → b ≡ largest (take (i + 1) xs)
+largest_more xs i h p q =
+    q ∙ ap (λ (k : ℕ). max k (nat_abs (at_ℤ xs i))) p ∙ sym (ap (λ (k : ℕ). largest (take k xs)) (add-one i) ∙ ap largest (take-suc xs i (pos 0) h) ∙ largest_snoc (take i xs) (at_ℤ xs i))
 
 -- read from the first on
 pub largest_fold : (m : ℕ) (xs : List ℤ) → fold (λ (a : ℕ) (x : ℤ). max a (nat_abs x)) m xs ≡ max m (largest xs)

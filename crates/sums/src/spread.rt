@@ -5,7 +5,7 @@ ghost use Rattle.std.specs.Prelude.{◌≡◌, ◌∷◌, ◌-◌, ◌≤◌, �
 ghost use Rattle.sums.specs.Spread.{add_one, add_each, run, offers, reach, with_last, extended, Ready, Spreads, Added};
 
 use runs::Runs;
-use search::{Place, rank_step, size_start, wide};
+use search::{EMPTY, Place, size_start};
 
 /// x is added to the entry at i, if there is one.
 fn add_one(xs: &mut [f64], i: usize, x: f64)
@@ -18,15 +18,17 @@ fn add_one(xs: &mut [f64], i: usize, x: f64)
 
 /// The numbers after the first, len of them, are added to the entries from `at` on, as far as there
 /// are any.
+// All numbers and a length (N): a run's places count from the first number, those of a part that
+// begins after it would be others.
 fn add_run(xs: &mut [f64], at: usize, len: usize, numbers: &[f64])
     requires numbers { len < length numbers.now }
     requires at { at ≤ 4294967294 }
     ensures { xs.new ≡ add_each (run at len) numbers.now xs.old }
 {
-    // Written by index (P): of entries lent in parts a proof knows no element.
+    // Written by index (P): of entries lent through `skip` an invariant knows none.
     let stop = xs.len().saturating_sub(at).min(len);
-    for j in 0..stop {
-        xs[at + j] += numbers[j + 1];
+    for (j, &number) in numbers[1..=stop].iter().enumerate() {
+        xs[at + j] += number;
     }
 }
 
@@ -74,7 +76,7 @@ impl<'a> Numbers<'a> {
             }
             Some((last, before)) => {
                 let m = runs.tally.len() - last.stop;
-                for c in 0..last.count + 1 {
+                for c in 0..=last.count {
                     let p = part.with(m, c);
                     let q = rack.with(m, c);
                     self.add_at_parts(before, p, q, num, den);
@@ -110,15 +112,13 @@ fn spread_count(
         values.now ways.now num.old den.old num.new den.new }
 {
     let m = runs.tally.len() - runs.stop - 1;
-    let part = Place {
-        tiles: c,
-        before: rank_step(m, c, c),
-    };
+    let part = EMPTY.with(m, c);
     let rack = Place {
-        tiles: 1 + c,
-        before: rank_step(m, 1 + c, c),
-    };
-    let racks = racks_beyond(m, wide(runs.tally[runs.stop]), c);
+        tiles: 1,
+        before: 0,
+    }
+    .with(m, c);
+    let racks = racks_beyond(m, usize::from(runs.tally[runs.stop]), c);
     let numbers = Numbers {
         values,
         ways,
@@ -131,6 +131,7 @@ fn spread_count(
 /// whose letters end at `stop`, and those after it at the parts of the racks that extend the leave
 /// by one tile which have that tile. Where num and den have an entry for each leave alone, the
 /// racks themselves are left out.
+// Num and den are two slices (C): they are lent so. The values and the ways go beside them alike.
 pub fn spread(
     tally: &[u8],
     stop: usize,
@@ -145,8 +146,8 @@ pub fn spread(
         values.now ways.now num.old den.old num.new den.new }
 {
     let runs = Runs::first(tally, stop - 1);
-    let count = wide(tally[stop - 1]);
-    for c in 0..count + 1 {
+    let count = usize::from(tally[stop - 1]);
+    for c in 0..=count {
         spread_count(runs, c, values, ways, num, den);
     }
 }

@@ -11,10 +11,8 @@ use whole::is_clear;
 /// Up to here each whole number is an f64.
 const LIMIT: u64 = 9_007_199_254_740_992;
 
-/// A product that is at most so large is made in a u64 before it is divided.
-const WIDEST: u64 = 9_223_372_036_854_775_808;
-
-/// A pool's count of a letter. The one place that reads it (C): counts shall get wider.
+/// A pool's count of a letter, as the sums and the draws read it (C): docs/DECISIONS.md, "Kept for
+/// what comes".
 pub fn held(count: u8) -> usize
     ensures same { result ≡ count }
     ensures byte { result ≤ 255 }
@@ -32,6 +30,8 @@ pub fn tiles_in(pool: &[u8]) -> usize
 
 /// C(tiles, k), where it is at most 2^53. Where it first is above, it stays so up to k: with k to
 /// 15 and so many tiles the binomials ascend.
+// Beside running_binomial (N): this one stays whole and tells where it is too large, that one is of
+// numbers known to fit, and makes the f64 that its caller multiplies.
 pub fn weight(tiles: usize, k: usize) -> Option<u64>
     requires { k ≤ 15 }
     ensures { SomeIff result (binomial tiles k ≤ 2 ^ 53) (binomial tiles k) }
@@ -39,14 +39,11 @@ pub fn weight(tiles: usize, k: usize) -> Option<u64>
     if tiles < k {
         return Some(0);
     }
-    let mut hands = 1;
+    let mut hands: u64 = 1;
     // Not by try_fold (N): both tests leave early, and say of which turn they are.
     for j in 0..k {
         let left = (tiles - j) as u64;
-        if WIDEST / left < hands {
-            return None;
-        }
-        hands = hands * left / (j + 1) as u64;
+        hands = hands.checked_mul(left)? / (j + 1) as u64;
         if LIMIT < hands {
             return None;
         }
@@ -85,10 +82,7 @@ pub fn within_weight(pool: &[u8], r: usize, sheet: u64, leave: u64) -> bool
     requires leave { leave ≤ 536870911 }
     ensures { Decides result (binomial (total pool.now) r * max 16 (sheet + leave) ≤ 2 ^ 53) }
 {
-    match weight(tiles_in(pool), r) {
-        Some(hands) => within_limit(hands, (sheet + leave).max(16)),
-        None => false,
-    }
+    weight(tiles_in(pool), r).is_some_and(|hands| within_limit(hands, (sheet + leave).max(16)))
 }
 
 /// Whether every entry is +0.0.

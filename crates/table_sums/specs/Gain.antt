@@ -4,8 +4,8 @@ use Rattle.std.specs.Prelude.{◌≡◌, refl, ◌⊎◌, List, [], ◌∷◌, �
 use Rattle.std.proofs.Common.{sym, ap, ap₂, ◌∙◌, inl, inr, length-set, get_or-set_same, get_or-set_other, le_refl, suc-ne-zero, add-one, arith}
 use Rattle.std.specs.Float.{nan, binary64}
 use Rattle.std.specs.Float.Ieee.{add}
-use Rattle.std.proofs.Math.Nat.{suc_inj}
-use Rattle.std.proofs.Math.Decide.{dec_lt, ℕ_discrete}
+use Rattle.std.proofs.Math.Nat.{suc_inj, eq-or-lt_of_le}
+use Rattle.std.proofs.Math.Decide.{ℕ_discrete}
 use Rattle.binomials.specs.Binomial.{binomial}
 use Rattle.lattice.specs.Tally.{total, within, add_tile, total_cons, start_suc}
 use Rattle.lattice.specs.Tallies.{count, count_suc, Fits, within_bump}
@@ -132,15 +132,11 @@ module _ (m t rem w v : ℕ) (letter : t < m) (apart : w + count (suc m) rem ≤
       → Gained m t (rem - c) (w + step m rem c) (v + step m (suc rem) c) b b' → Turned m t rem w v (suc c) a b'
   turned_more c a b b' hr s d = record {
     long = d.long ∙ s.long;
-    done = λ x q h f. at x q f (index_or x c (omega arith) (dec_lt x c));
+    done = λ x q h f. at x q f (eq-or-lt_of_le (omega arith));
     undone = λ x q h f. let g = headed m rem x q f in d.outside _ (inr (rw g.place (omega (arith, steps_apart m rem c x h g.few)))) ∙ s.undone x q (omega arith) f;
     outside = λ i h. d.outside i (off i h) ∙ s.outside i h;
   }
     where
-      index_or : (x c : ℕ) → x ≤ c → Dec (x < c) → (x < c) ⊎ (x ≡ c)
-      index_or x c h (yes l) = inl l
-      index_or x c h (no l) = inr (omega arith)
-
       off : (i : ℕ) → (i < w) ⊎ (w + count (suc m) rem ≤ i) → (i < w + step m rem c) ⊎ (w + step m rem c + count m (rem - c) ≤ i)
       off i (inl h) = inl (omega arith)
       off i (inr h) = inr (omega (arith, step_room m rem c hr))
@@ -162,11 +158,11 @@ module _ (m t rem w v : ℕ) (letter : t < m) (apart : w + count (suc m) rem ≤
           ∙ d.inside q g.tail
           ∙ ap₂ (add binary64) (ap (λ (k : ℕ). get_or b k nan) (sym e) ∙ s.undone c q (le_refl c) f) (target q g.tail)
 
-      at : (x : ℕ) (q : List ℕ) → Fits (suc m) rem (x ∷ q) → (x < c) ⊎ (x ≡ c) → get_or b' (w + within (x ∷ q)) nan ≡ add binary64 (get_or a (w + within (x ∷ q)) nan) (get_or a (v + within (x ∷ add_tile q t)) nan)
-      at x q f (inl l) =
+      at : (x : ℕ) (q : List ℕ) → Fits (suc m) rem (x ∷ q) → (x ≡ c) ⊎ (x < c) → get_or b' (w + within (x ∷ q)) nan ≡ add binary64 (get_or a (w + within (x ∷ q)) nan) (get_or a (v + within (x ∷ add_tile q t)) nan)
+      at x q f (inr l) =
           let g = headed m rem x q f in
           d.outside _ (inl (rw g.place (omega (arith, steps_apart m rem x c l hr, within_below m (rem - x) q g.tail)))) ∙ s.done x q l f
-      at x q f (inr e) = rw e (same q (rw e at f))
+      at x q f (inl e) = rw e (same q (rw e at f))
 
   -- after the last count
   pub turned_all : (c : ℕ) (a b : List Float) → rem < c → Turned m t rem w v c a b → Gained (suc m) (suc t) rem w v a b

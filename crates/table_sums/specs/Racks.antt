@@ -1,6 +1,8 @@
--- What the loops over the full racks' own entries compute and write. Assumes nothing.
-use Rattle.std.specs.Prelude.{◌≡◌, refl, ◌⊎◌, Bool, true, false, cond, List, ℕ, suc, ◌+◌, ◌≤◌, ◌<◌, max, ℤ, pos, nat_abs, length, get_or, set}
-use Rattle.std.proofs.Common.{sym, ap, ◌∙◌, inl, inr, length-set, get_or-set_same, get_or-set_other, le_refl, arith}
+-- What the loops over the full racks' own entries compute and write, and the part of a table from the first of them on. Assumes nothing.
+use Rattle.std.specs.Prelude.{◌≡◌, refl, ◌⊎◌, Bool, true, false, cond, List, ℕ, suc, ◌+◌, ◌≤◌, ◌<◌, max, ℤ, pos, nat_abs, length, get_or, set, ◌++◌, ◌-◌, take, drop}
+use Rattle.std.proofs.Common.{sym, ap, ◌∙◌, inl, inr, le_of_eq, length-set, length-drop, length-append, length-take-le, get_or-take, get_or-drop, get_or-append-add, get_or-set_same, get_or-set_other, le_refl, arith}
+use Rattle.std.proofs.Math.ListN.{get_or-append}
+use Rattle.std.proofs.lemmas.List.{get_or_past}
 use Rattle.std.specs.Float.Ieee.{Float, lt, mul, of_bits, binary64}
 use Rattle.std.specs.Float.{nan}
 use Rattle.std.proofs.Math.Decide.{ℕ_discrete}
@@ -27,11 +29,13 @@ pub record Valued (lo : ℕ) (best : List ℤ) (ways : List Float) (k : ℕ) (a 
   pub inside : (i : ℕ) → lo ≤ i → i < k → get_or b i nan ≡ cond (lt (of_bits binary64 0) (at_f ways i)) (mul binary64 (at_f ways i) (whole (at_ℤ best i))) (get_or a i nan)
   pub outside : (i : ℕ) → (i < lo) ⊎ (k ≤ i) → get_or b i nan ≡ get_or a i nan
 
--- a becomes b: each entry from lo to below k is +0.0, and the rest is as it was
-pub record Cleared (lo k : ℕ) (a b : List Float) : Type 0 where
-  pub long : length b ≡ length a
-  pub inside : (i : ℕ) → lo ≤ i → i < k → get_or b i nan ≡ whole (pos 0)
-  pub outside : (i : ℕ) → (i < lo) ⊎ (k ≤ i) → get_or b i nan ≡ get_or a i nan
+-- the part of xs from lo on
+abbrev pub part : {A : Type 0} → ℕ → List A → List A
+part lo xs = take (length xs - lo) (drop lo xs)
+
+-- xs with that part written anew
+abbrev pub anew : {A : Type 0} → ℕ → List A → List A → List A
+anew lo xs ys = take lo xs ++ (ys ++ drop (length xs - lo) (drop lo xs))
 
 pub larger_is : (best : List ℤ) (ways : List Float) (k m : ℕ) {x : ℕ} {z : ℤ} → z ≡ at_ℤ best k → x ≡ cond (lt (of_bits binary64 0) (at_f ways k)) (max m (nat_abs z)) m → x ≡ larger_at best ways k m
 unfolding larger_at
@@ -91,23 +95,61 @@ module _ (lo : ℕ) (best : List ℤ) (ways : List Float) where
           at t q i m g (yes f) = rw (f, q) (same t)
           at t q i m g (no f) = other t i f ∙ v.inside i m (omega arith)
 
-pub cleared_none : (lo k : ℕ) (a : List Float) → k ≤ lo → Cleared lo k a a
-cleared_none lo k a h = record { long = refl; inside = λ i l g. absurd (none i l g); outside = λ i l. refl }
+-- ---- the part from lo on
+
+module _ {A : Type 0} (lo : ℕ) (xs : List A) (h : lo ≤ length xs) where
+  pub part_long : length (part lo xs) ≡ length xs - lo
+  part_long = length-take-le (length xs - lo) (drop lo xs) (le_of_eq (sym (length-drop lo xs)))
+
+  pub part_at : (j : ℕ) (d : A) → j < length xs - lo → get_or (part lo xs) j d ≡ get_or xs (lo + j) d
+  part_at j d l = get_or-take (length xs - lo) (drop lo xs) j d l ∙ get_or-drop lo xs j d
+
+  front : length (take lo xs) ≡ lo
+  front = length-take-le lo xs h
+
+  module _ (ys : List A) where
+    pub anew_long : length ys ≡ length xs - lo → length (anew lo xs ys) ≡ length xs
+    anew_long e =
+        let none : length (drop (length xs - lo) (drop lo xs)) ≡ 0 = length-drop (length xs - lo) (drop lo xs) ∙ omega (arith, length-drop lo xs) in
+        length-append (take lo xs) _ ∙ omega (arith, front, length-append ys (drop (length xs - lo) (drop lo xs)), none, e, h)
+
+    pub anew_below : (i : ℕ) (d : A) → i < lo → get_or (anew lo xs ys) i d ≡ get_or xs i d
+    anew_below i d l = get_or-append (take lo xs) _ d i (omega (arith, front)) ∙ get_or-take lo xs i d l
+
+    pub anew_from : (j : ℕ) (d : A) → j < length ys → get_or (anew lo xs ys) (lo + j) d ≡ get_or ys j d
+    anew_from j d l =
+        ap (λ (k : ℕ). get_or (anew lo xs ys) (k + j) d) (sym front)
+        ∙ get_or-append-add (take lo xs) (ys ++ drop (length xs - lo) (drop lo xs)) j d
+        ∙ get_or-append ys _ d j l
+
+pub valued_part : (lo : ℕ) (best : List ℤ) (ways num : List Float) {k : ℕ} {ys : List Float} → lo ≤ length best → length best ≡ length ways → length best ≡ length num → length best - lo ≤ k
+    → Valued 0 (part lo best) (part lo ways) k (part lo num) ys → Valued lo best ways (length best) num (anew lo num ys)
+valued_part lo best ways num {k} {ys} h w n more v = record { long = long; inside = inside; outside = outside }
   where
-    none : (i : ℕ) → lo ≤ i → i < k → ⊥
-    none i l g = omega arith
+    h-ways : lo ≤ length ways
+    h-ways = omega arith
 
-pub cleared_more : {lo k : ℕ} {a b : List Float} {x : Float} → lo ≤ k → k < length b → x ≡ whole (pos 0) → Cleared lo k a b → Cleared lo (suc k) a (set b k x)
-cleared_more {lo} {k} {a} {b} {x} l h e v = record { long = length-set b k x ∙ v.long; inside = λ i m g. at i m g (ℕ_discrete i k); outside = λ i g. get_or-set_other b k i x nan (apart i g) ∙ v.outside i (wider i g) }
-  where
-    apart : (i : ℕ) → (i < lo) ⊎ (suc k ≤ i) → i ≡ k → ⊥
-    apart i (inl g) f = omega arith
-    apart i (inr g) f = omega arith
+    h-num : lo ≤ length num
+    h-num = omega arith
 
-    wider : (i : ℕ) → (i < lo) ⊎ (suc k ≤ i) → (i < lo) ⊎ (k ≤ i)
-    wider i (inl g) = inl g
-    wider i (inr g) = inr (omega arith)
+    size : length ys ≡ length num - lo
+    size = v.long ∙ part_long lo num h-num
 
-    at : (i : ℕ) → lo ≤ i → i < suc k → Dec (i ≡ k) → get_or (set b k x) i nan ≡ whole (pos 0)
-    at i m g (yes f) = rw f (get_or-set_same b k x nan h ∙ e)
-    at i m g (no f) = get_or-set_other b k i x nan f ∙ v.inside i m (omega arith)
+    long : length (anew lo num ys) ≡ length num
+    long = anew_long lo num h-num ys size
+
+    at : (q : ℕ) → q < length best - lo → get_or (anew lo num ys) (lo + q) nan ≡ cond (lt (of_bits binary64 0) (at_f ways (lo + q))) (mul binary64 (at_f ways (lo + q)) (whole (at_ℤ best (lo + q)))) (get_or num (lo + q) nan)
+    at q l =
+        let a = part_at lo ways h-ways q nan (omega arith) in
+        let b = part_at lo best h q (pos 0) l in
+        let c = part_at lo num h-num q nan (omega arith) in
+        anew_from lo num h-num ys q nan (omega (arith, size)) ∙ rw (a, b, c) at (v.inside q (omega arith) (omega arith))
+
+    inside : (i : ℕ) → lo ≤ i → i < length best → get_or (anew lo num ys) i nan ≡ cond (lt (of_bits binary64 0) (at_f ways i)) (mul binary64 (at_f ways i) (whole (at_ℤ best i))) (get_or num i nan)
+    inside i l g =
+        let e : lo + (i - lo) ≡ i = omega arith in
+        rw e at (at (i - lo) (omega arith))
+
+    outside : (i : ℕ) → (i < lo) ⊎ (length best ≤ i) → get_or (anew lo num ys) i nan ≡ get_or num i nan
+    outside i (inl l) = anew_below lo num h-num ys i nan l
+    outside i (inr l) = get_or_past _ i nan (omega (arith, long)) ∙ sym (get_or_past num i nan (omega arith))

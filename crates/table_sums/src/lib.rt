@@ -2,18 +2,17 @@
 //! it, and the number of those hands.
 #![tactic(auto)]
 
-ghost use Rattle.std.specs.Prelude.{◌≡◌, ◌↔◌, true, IsTrue, length};
+ghost use Rattle.std.specs.Prelude.{◌↔◌, IsTrue, length};
 ghost use Rattle.refusal.specs.Refusal.{number_of};
-ghost use Rattle.lattice.specs.Answers.{served};
 ghost use Rattle.table_sums.specs.Table.{best_at, Sized, Filled, Apportioned};
 ghost use Rattle.table_sums.specs.Calls.{HaveSize, Clearly, RacksDealt, Summing, Dealing, Dealt};
 
 use fused::deal_racks;
 use lattice::Lattice;
+use lattice::sizes::Sizes;
 use passes::fold_letters;
-use racks::{clear_from, fill_values, most_of};
+use racks::{fill_values, most_of};
 use refusal::Refusal;
-use search::size_start;
 use sums::weight::{all_clear, tiles_in, weight, within_limit};
 
 pub mod passes;
@@ -26,74 +25,75 @@ fn lengths_fit(size: usize, n: usize, best: &[i32], unseen: &[u8], num: &[f64], 
     best.len() == size && unseen.len() == n && num.len() == size && den.len() == size
 }
 
-/// The ways of the full racks, which stand from lo on, are dealt into a clear table.
-fn deal_from(r: usize, lo: usize, unseen: &[u8], den: &mut [f64])
-    requires { Clearly r lo unseen.now den.old }
-    ensures { RacksDealt unseen.now r lo den.old den.new }
+/// The ways of the full racks are dealt into a clear table.
+#[tactic(auto, using(crate::specs::Calls::lo_below, crate::specs::Calls::part_pool))]
+fn deal_from(sizes: Sizes, unseen: &[u8], den: &mut [f64])
+    requires { Clearly sizes unseen.now den.old }
+    ensures { RacksDealt unseen.now sizes.r sizes.leaves den.old den.new }
 {
-    deal_racks(unseen, r, &mut den[lo..]);
+    deal_racks(unseen, sizes.r, &mut den[sizes.leaves..]);
 }
 
 /// The sums, where den has the ways of the full racks.
-fn sum_racks(r: usize, lo: usize, best: &[i32], unseen: &[u8], num: &mut [f64], den: &mut [f64])
-    requires { Summing r lo best.now unseen.now num.old den.old }
-    ensures { Filled (length unseen.now) r (best_at (length unseen.now) best.now) unseen.now num.new den.new }
+// best, unseen, num and den go side by side (C): they are lent slices, and num and den written
+// through, here and below.
+fn sum_racks(sizes: Sizes, best: &[i32], unseen: &[u8], num: &mut [f64], den: &mut [f64])
+    requires { Summing sizes best.now unseen.now num.old den.old }
+    ensures { Filled (length unseen.now) sizes.r (best_at (length unseen.now) best.now) unseen.now
+        num.new den.new }
 {
-    fill_values(lo, best, den, num);
-    fold_letters(r, unseen, num);
-    fold_letters(r, unseen, den);
+    fill_values(sizes.leaves, best, den, num);
+    fold_letters(sizes, unseen, num);
+    fold_letters(sizes, unseen, den);
 }
 
 /// The ways of the full racks are dealt into den, which gives the largest best that counts. Beyond
 /// the limit they are taken out again.
 fn apportion_dealt(
     w: u64,
-    r: usize,
+    sizes: Sizes,
     best: &[i32],
     unseen: &[u8],
     num: &mut [f64],
     den: &mut [f64],
 ) -> Result<(), Refusal>
-    requires { Dealing w r best.now unseen.now num.old den.old }
-    ensures { Dealt (length unseen.now) r best.now unseen.now num.old den.old (number_of result) num.new den.new }
+    requires { Dealing w sizes best.now unseen.now num.old den.old }
+    ensures { Dealt (length unseen.now) sizes.r best.now unseen.now num.old den.old
+        (number_of result) num.new den.new }
 {
-    let lo = size_start(unseen.len(), r);
-    deal_from(r, lo, unseen, den);
-    let most = most_of(lo, best, den);
+    deal_from(sizes, unseen, den);
+    let most = most_of(sizes.leaves, best, den);
     if !within_limit(w, most) {
-        clear_from(den, lo);
+        den[sizes.leaves..].fill(0.0);
         return Err(Refusal::Weight);
     }
-    sum_racks(r, lo, best, unseen, num, den);
+    sum_racks(sizes, best, unseen, num, den);
     Ok(())
 }
 
 /// The table sums over slices of the right lengths.
+#[tactic(auto, using(lattice::specs::Served::facts))]
 fn apportion_sized(
-    r: usize,
+    sizes: Sizes,
     best: &[i32],
     unseen: &[u8],
     num: &mut [f64],
     den: &mut [f64],
 ) -> Result<(), Refusal>
-    requires sizes { served (length unseen.now) r ≡ true }
-    requires lengths { Sized (length unseen.now) r best.now unseen.now num.old den.old }
-    ensures { Apportioned (length unseen.now) r best.now unseen.now num.old den.old (number_of result)
-        num.new den.new }
+    requires { Sized sizes.n sizes.r best.now unseen.now num.old den.old }
+    ensures { Apportioned sizes.n sizes.r best.now unseen.now num.old den.old
+        (number_of result) num.new den.new }
 {
-    if !all_clear(num) {
+    if !all_clear(num) || !all_clear(den) {
         return Err(Refusal::NotClear);
     }
-    if !all_clear(den) {
-        return Err(Refusal::NotClear);
-    }
-    let Some(hands) = weight(tiles_in(unseen), r) else {
+    let Some(hands) = weight(tiles_in(unseen), sizes.r) else {
         return Err(Refusal::Weight);
     };
     if !within_limit(hands, 16) {
         return Err(Refusal::Weight);
     }
-    apportion_dealt(hands, r, best, unseen, num, den)
+    apportion_dealt(hands, sizes, best, unseen, num, den)
 }
 
 /// Fills num and den, which are +0.0 on entry: at each multiset, full racks included, the sum of
@@ -113,5 +113,5 @@ pub fn apportion_table(
     if !lengths_fit(sizes.len, sizes.n, best, unseen, num, den) {
         return Err(Refusal::Length);
     }
-    apportion_sized(sizes.r, best, unseen, num, den)
+    apportion_sized(sizes, best, unseen, num, den)
 }

@@ -1,5 +1,7 @@
 //! The answers of the library's calls, each as a list gives it: the number of a refusal, 0 where
-//! there is none, and the values, others where the call is refused.
+//! there is none, and the values, or what stands for them where the call is refused.
+// A number beside a value (N): a list has these numbers, one after the other. census makes the same
+// of an answer, in structs: the C interface's structs are no part of a list.
 use refusal::{Refusal, number};
 use search::Kept;
 use search::calls::{Kind, Play};
@@ -8,15 +10,12 @@ use whole::UNPLAYABLE;
 /// The rank that stands for none.
 const NO_RANK: u32 = u32::MAX;
 
-pub fn refusal(answer: Result<(), Refusal>) -> u8 {
-    number(answer)
-}
-
 pub fn rank(answer: Result<u32, Refusal>) -> (u8, u32) {
     (number(answer), answer.unwrap_or(NO_RANK))
 }
 
 /// A length or a start, 0 where the sizes are refused.
+// (N): where the sizes are refused, the tables are empty.
 pub fn size(answer: Result<u32, Refusal>) -> usize {
     answer.unwrap_or(0) as usize
 }
@@ -36,6 +35,7 @@ pub fn keep(answer: Result<Option<Kept>, Refusal>) -> (u8, i32, u32) {
 pub fn play(answer: Result<Play, Refusal>) -> (u8, i32, u8) {
     match answer {
         Ok(play) => {
+            // As in census (N): a kind is a number in a list and in the C interface alone.
             let kind = match play.kind {
                 Kind::Word => 1,
                 Kind::Exchange => 2,

@@ -135,9 +135,11 @@ impl Case {
         self.by_letter = vec![in self.alloc; 0; len]?;
         Ok(
             len == 0
-                || answer::refusal(self.lattice.fill_add(&mut self.add)) == 0
-                    && answer::refusal(self.lattice.fill_by_letter(&self.add, &mut self.by_letter))
-                        == 0,
+                || self.lattice.fill_add(&mut self.add).is_ok()
+                    && self
+                        .lattice
+                        .fill_by_letter(&self.add, &mut self.by_letter)
+                        .is_ok(),
         )
     }
 }

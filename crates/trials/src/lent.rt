@@ -5,11 +5,13 @@ ghost use Rattle.std.specs.Prelude.{◌≤◌};
 use cases::{Fault, Fields};
 use std::alloc::Global;
 
-/// The most entries of a list of tiles, of a table of values, and of a table of ranks.
+/// The most entries of a list of tiles.
 pub const MOST_TILES: usize = 512;
 
+/// The most entries of a table of values.
 pub const MOST_VALUES: usize = 4096;
 
+/// The most entries of a table of ranks.
 pub const MOST_RANKS: usize = 16384;
 
 #[derive(Clone, Copy, Debug, PartialEq, Eq)]
@@ -68,8 +70,7 @@ pub fn spoil(table: &mut [u32], damage: u64) {
     let Some(place) = damage.checked_sub(1) else {
         return;
     };
-    let i = place as usize;
-    if i < table.len() {
-        table[i] = table[i].wrapping_add(1);
+    if let Some(entry) = table.get_mut(place as usize) {
+        *entry = entry.wrapping_add(1);
     }
 }

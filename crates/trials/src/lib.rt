@@ -1,4 +1,6 @@
 //! The cases of a list, each run through the call that it names and compared with its record.
+// (N): what a record says by a number (what is dirty, damaged or handed over) is read in one place,
+// beside the list of its numbers: an enum for each would say them twice.
 #![tactic(auto)]
 
 mod answer;

@@ -3,6 +3,7 @@ use crate::answer;
 use crate::case::Case;
 use crate::lent::{MOST_TILES, MOST_VALUES, Part, Short, filled};
 use cases::{Fault, Fields};
+use refusal::number;
 use search::calls;
 
 /// The most letters of a lattice.
@@ -15,16 +16,17 @@ impl Case {
         let tally = fields.list(self.alloc, MOST_TILES)?;
         let letters = self.lattice.n.min(MOST_LETTERS);
         let mut kept = filled(self.alloc, 0, letters, MOST_LETTERS)?;
-        let (number, best, kind) = answer::play(calls::naive_best_equity(
+        let answer = calls::naive_best_equity(
             self.lattice,
             short.cut(Part::Sheet, &self.sheet),
             short.cut(Part::Leave, &self.leave),
             &tally,
             &mut kept,
-        ));
-        if number != 0 {
+        );
+        if answer.is_err() {
             kept.clear();
         }
+        let (number, best, kind) = answer::play(answer);
         Ok(
             fields.is(number)
                 && fields.is(best)
@@ -54,7 +56,7 @@ impl Case {
         let fill = fields.read::<i32>()?;
         let len = short.len_of(Part::Out, self.len());
         let mut out = filled(self.alloc, fill, len, MOST_VALUES)?;
-        let number = answer::refusal(calls::best_equity_table(
+        let number = number(calls::best_equity_table(
             self.lattice,
             short.cut(Part::Sheet, &self.sheet),
             short.cut(Part::Leave, &self.leave),

@@ -3,7 +3,7 @@ use crate::answer;
 use crate::case::Case;
 use crate::lent::{MOST_TILES, Part, Short, filled};
 use cases::{Fault, Fields};
-use refusal::Refusal;
+use refusal::{Refusal, number};
 
 /// Whether the numbers that are left are those of a rank: no, rank.
 fn is_ranked(mut fields: Fields<'_>, ranked: Result<u32, Refusal>) -> bool {
@@ -45,7 +45,7 @@ impl Case {
         let fill = fields.read()?;
         let len = short.len_of(Part::Out, self.lattice.n);
         let mut out = filled::<u8>(self.alloc, fill, len, MOST_TILES)?;
-        let number = answer::refusal(self.lattice.unrank_into(idx, &mut out));
+        let number = number(self.lattice.unrank_into(idx, &mut out));
         Ok(fields.is(number) && fields.are(&out) && fields.is_empty())
     }
 }

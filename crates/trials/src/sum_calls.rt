@@ -7,6 +7,7 @@ use draws::dynamic_leave_value;
 use fused::calls::apportion_fused;
 use fused::mode::Mode;
 use maxima::calls::subset_max_transform;
+use refusal::number;
 use table_sums::apportion_table;
 
 fn set(sum: Option<&mut f64>, value: f64) {
@@ -26,14 +27,22 @@ fn soil(dirty: u64, num: &mut [f64], den: &mut [f64], ways: &mut [f64]) {
     }
 }
 
+/// The letter table as it is lent, which may be empty.
+fn letters_lent(has_letters: bool, short: Short, by_letter: &[u32]) -> &[u32] {
+    if has_letters {
+        short.cut(Part::ByLetter, by_letter)
+    } else {
+        &[]
+    }
+}
+
 impl Case {
     // 0 (of the sheet) or 1 (of the leave), short (1 src, 2 dst, 3 add table, 4 letter table),
     // letters, damage, fill; no, dst after.
     pub(crate) fn subset_max_transform(&self, mut fields: Fields<'_>) -> Result<bool, Fault> {
-        let source = if fields.number()? == 0 {
-            &self.sheet
-        } else {
-            &self.leave
+        let source = match fields.number()? {
+            0 => &self.sheet,
+            _ => &self.leave,
         };
         let parts = [Part::Source, Part::Out, Part::Add, Part::ByLetter];
         let short = Short::read(&mut fields, &parts)?;
@@ -42,14 +51,10 @@ impl Case {
         let fill = fields.read::<i32>()?;
         let len = short.len_of(Part::Out, self.len());
         let mut out = filled(self.alloc, fill, len, MOST_VALUES)?;
-        let number = answer::refusal(subset_max_transform(
+        let number = number(subset_max_transform(
             self.lattice,
             short.cut(Part::Add, &add),
-            if has_letters {
-                short.cut(Part::ByLetter, &by_letter)
-            } else {
-                &[]
-            },
+            letters_lent(has_letters, short, &by_letter),
             short.cut(Part::Source, source),
             &mut out,
         ));
@@ -63,7 +68,7 @@ impl Case {
         let mut num = self.sums(short, Part::Num, self.len())?;
         let mut den = self.sums(short, Part::Den, self.len())?;
         soil(fields.number()?, &mut num, &mut den, &mut []);
-        let number = answer::refusal(apportion_table(
+        let number = number(apportion_table(
             self.lattice,
             short.cut(Part::Best, &self.best),
             short.cut(Part::Pool, &self.pool),
@@ -105,14 +110,10 @@ impl Case {
         let fill = fields.read::<i32>()?;
         let len = short.len_of(Part::Out, self.len());
         let mut max_sheet = filled(self.alloc, fill, len, MOST_VALUES)?;
-        let number = answer::refusal(apportion_fused(
+        let number = number(apportion_fused(
             self.lattice,
             short.cut(Part::Add, &add),
-            if has_letters {
-                short.cut(Part::ByLetter, &by_letter)
-            } else {
-                &[]
-            },
+            letters_lent(has_letters, short, &by_letter),
             short.cut(Part::Sheet, &self.sheet),
             short.cut(Part::Leave, &self.leave),
             &leave_max,
@@ -169,11 +170,16 @@ impl Case {
             &self.leave,
             &mut max,
         );
-        if kind == 2 && !max.is_empty() {
-            max[0] = max[0].saturating_add(1);
-        }
-        if kind == 3 {
-            max.pop();
+        match kind {
+            2 => {
+                if let Some(first) = max.first_mut() {
+                    *first = first.saturating_add(1);
+                }
+            }
+            3 => {
+                max.pop();
+            }
+            _ => {}
         }
         Ok(max)
     }

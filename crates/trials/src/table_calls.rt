@@ -1,9 +1,9 @@
 //! Tables of binomials and of ranks: calls 15 to 18.
-use crate::answer;
 use crate::case::Case;
 use crate::lent::{MOST_RANKS, MOST_VALUES, Part, Short, filled, spoil};
 use cases::{Fault, Fields};
 use lattice::triangle;
+use refusal::number;
 
 /// What every entry of a table holds before it is written.
 const UNWRITTEN: u8 = 7;
@@ -24,7 +24,7 @@ impl Case {
         let rows = fields.read()?;
         let len = fields.read()?;
         let mut out = filled(self.alloc, u64::from(UNWRITTEN), len, MOST_VALUES)?;
-        let number = answer::refusal(triangle::pascal_rows(rows, &mut out));
+        let number = number(triangle::pascal_rows(rows, &mut out));
         Ok(fields.is(number) && fields.are(&out) && fields.is_empty())
     }
 
@@ -33,7 +33,7 @@ impl Case {
         let short = Short::read(&mut fields, &[Part::Out])?;
         let len = short.len_of(Part::Out, self.add.len());
         let mut out = filled(self.alloc, u32::from(UNWRITTEN), len, MOST_RANKS)?;
-        let number = answer::refusal(self.lattice.fill_add(&mut out));
+        let number = number(self.lattice.fill_add(&mut out));
         Ok(fields.is(number) && fields.are(&out) && fields.is_empty())
     }
 
@@ -44,16 +44,15 @@ impl Case {
         let len = short.len_of(Part::Out, add.len());
         let mut out = filled(self.alloc, u32::from(UNWRITTEN), len, MOST_RANKS)?;
         let add = short.cut(Part::Add, &add);
-        let number = answer::refusal(self.lattice.fill_by_letter(add, &mut out));
+        let number = number(self.lattice.fill_by_letter(add, &mut out));
         Ok(fields.is(number) && fields.are(&out) && fields.is_empty())
     }
 
     // 0 (empty table) or 1 (whole), letter; counted ranks.
     pub(crate) fn letter(&self, mut fields: Fields<'_>) -> Result<bool, Fault> {
-        let by_letter = if fields.number()? == 0 {
-            &[]
-        } else {
-            &self.by_letter[..]
+        let by_letter = match fields.number()? {
+            0 => &[],
+            _ => &self.by_letter[..],
         };
         let part = self.lattice.letter(by_letter, fields.read()?);
         Ok(fields.is(part.len()) && fields.are(part) && fields.is_empty())

@@ -1,9 +1,9 @@
 //! Blank variants: call 40.
-use crate::answer;
 use crate::case::Case;
 use crate::lent::{MOST_TILES, Part, Short};
 use blanks::record_blank_variants;
 use cases::{Fault, Fields};
+use refusal::number;
 
 impl Case {
     // Score, blanks, short (1 sheet, 2 pool), counted letters, counted drops; no, letters after,
@@ -16,7 +16,7 @@ impl Case {
         let mut drops = fields.list(self.alloc, MOST_TILES)?;
         let mut sheet = short.cut(Part::Sheet, &self.sheet).to_vec(self.alloc)?;
         let pool = short.cut(Part::Pool, &self.pool);
-        let number = answer::refusal(record_blank_variants(
+        let number = number(record_blank_variants(
             self.lattice,
             &mut sheet,
             score,

@@ -20,6 +20,7 @@ use Rattle.draws.specs.Draws.DrawNumber.{limit, accepted}
 abbrev pub bests : List ℤ
 bests = pos 0 ∷ pos 0 ∷ pos 0 ∷ pos 10 ∷ pos 30 ∷ pos 8 ∷ []
 
+-- a rack's best, by its rank
 abbrev pub best : List ℕ → ℤ
 best rack = at_ℤ bests (rank_of 2 rack)
 

@@ -13,13 +13,15 @@ use Rattle.lattice.specs.Leaves.{AddTable}
 use Rattle.worked.specs.Draws.{Keeping, Fifteen}
 use Rattle.listing.specs.Listing.{listing_of}
 
--- the listing's board: n 2, r 2, pool (1,2)
+-- the listing's board: n 2, r 2, pool (1,2); its sheet
 abbrev sheet : List ℤ
 sheet = pos 0 ∷ pos 2 ∷ pos 1 ∷ pos 10 ∷ pos 30 ∷ pos 5 ∷ []
 
+-- its leave table
 abbrev leave : List ℤ
 leave = pos 0 ∷ pos 4 ∷ pos 7 ∷ pos 1 ∷ pos 3 ∷ negsuc 1 ∷ []
 
+-- the subset maximum of its leave table
 abbrev leave_max : List ℤ
 leave_max = pos 0 ∷ pos 4 ∷ pos 7 ∷ pos 4 ∷ pos 7 ∷ pos 7 ∷ []
 
@@ -33,13 +35,15 @@ abbrev output : List ℕ
 output =
     50 ∷ 32 ∷ 50 ∷ 32 ∷ 51 ∷ 10 ∷ 48 ∷ 32 ∷ 51 ∷ 32 ∷ 55 ∷ 48 ∷ 32 ∷ 50 ∷ 51 ∷ 10 ∷ 49 ∷ 32 ∷ 51 ∷ 32 ∷ 55 ∷ 48 ∷ 32 ∷ 50 ∷ 51 ∷ 10 ∷ 50 ∷ 32 ∷ 50 ∷ 32 ∷ 54 ∷ 48 ∷ 32 ∷ 51 ∷ 48 ∷ 10 ∷ []
 
--- the leaves of the best leave, and the placed tiles of the blank variants
+-- the leave table of the best leave
 abbrev leaves : List ℤ
 leaves = pos 0 ∷ pos 4 ∷ pos 4 ∷ pos 0 ∷ pos 0 ∷ pos 0 ∷ []
 
+-- the placed tiles of the blank variants
 abbrev placed : List Tile
 placed = (1, pos 5) ∷ (2, pos 3) ∷ []
 
+-- their sheet
 abbrev zeros : List ℤ
 zeros = replicate 10 (pos 0)
 

@@ -1,17 +1,23 @@
 -- `extensions::next_leave` meets its contract. Assumes nothing.
-use Rattle.std.proofs.Common.{◌≡◌, ℕ, length, take, refl, sym, ap, ◌∙◌, subst, arith}
+use Rattle.std.proofs.Common.{ℕ, take, refl, sym, ap, ◌∙◌, subst, arith}
 use Rattle.std.proofs.Math.Seq.{take-length}
 use Rattle.runs.specs.Runs.{present, RunAt}
 use Rattle.extensions.specs.Onward.{next_there, onward, stop_run}
 use Rattle.extensions.proofs.next_leave.Goals as goal
 
-pub next_run-requires : goal.next_run-requires
-next_run-requires c =
-    let x = c.args.tally.now in
+pub next_run-requires-clause-inside : goal.next_run-requires-clause-inside
+next_run-requires-clause-inside c = omega (arith, c.next_tally-word.ensures.next.letters)
+
+pub next_run-requires-clause-word : goal.next_run-requires-clause-word
+next_run-requires-clause-word c =
     let u = c.next_tally-word.new.tally in
     let v = c.next_tally-word.ensures in
-    let n : length u ≡ length x = v.next.letters in
-    (omega (arith, n), v.word ∙ sym (ap (λ (k : ℕ). present (take k u)) (sym n) ∙ ap present (take-length u)), next_there x u v.next v.word)
+    v.word ∙ sym (ap (λ (k : ℕ). present (take k u)) (sym v.next.letters) ∙ ap present (take-length u))
+
+pub next_run-requires-clause-some : goal.next_run-requires-clause-some
+next_run-requires-clause-some c =
+    let v = c.next_tally-word.ensures in
+    next_there c.args.tally.now c.next_tally-word.new.tally v.next v.word
 
 pub returns-clause-onward : goal.returns-clause-onward
 returns-clause-onward c =

@@ -5,5 +5,5 @@ use lib.ListN.{length}
 use Rattle.maxima.specs.Maxima.{lift_row}
 use Rattle.maxima.proofs.lift_row.Given as goal
 
-abbrev pub invariant-loop-t : goal.invariant-loop-t
-invariant-loop-t l = (l.t ≤ l.n) × (length l.dst ≡ length l.initial.dst) × (l.dst ≡ lift_row l.n l.add l.idx l.t l.initial.dst)
+abbrev pub invariant-loop-rank : goal.invariant-loop-rank
+invariant-loop-rank l = (length l.dst ≡ length l.initial.dst) × (l.dst ≡ lift_row l.n l.add l.idx l.rank-index l.initial.dst)

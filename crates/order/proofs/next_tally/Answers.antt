@@ -12,10 +12,11 @@ returns-then-word-eq0-clause-next c = (none_next c.args.tally.now c.requires.som
 pub returns-then-word-eq0-clause-word : goal.returns-then-word-eq0-clause-word
 returns-then-word-eq0-clause-word c = (none_next c.args.tally.now c.requires.some (sym c.requires.word ∙ c.if-word-eq0.true)).1
 
-pub next_run-run-requires : goal.next_run-run-requires
-next_run-run-requires c =
-    let some = c.if-word-eq0.false in
-    (omega arith, c.requires.word ∙ ap present (sym (take-length c.args.tally.now)), λ e. some (ones_none 64 c.args.word c.ranges.word.fits e))
+pub next_run-run-requires-clause-word : goal.next_run-run-requires-clause-word
+next_run-run-requires-clause-word c = c.requires.word ∙ ap present (sym (take-length c.args.tally.now))
+
+pub next_run-run-requires-clause-some : goal.next_run-run-requires-clause-some
+next_run-run-requires-clause-some c none = c.if-word-eq0.false (ones_none 64 c.args.word c.ranges.word.fits none)
 
 pub overflow_add-tally : goal.overflow_add-tally
 overflow_add-tally c =

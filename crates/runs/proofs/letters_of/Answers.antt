@@ -1,36 +1,43 @@
--- `runs::letters_of` meets its contract. The loop's invariant: the word is that of the letters passed, and has as many bits.
--- Assumes nothing.
-use mathlib.Core.Path.{◌≡◌, refl, sym, ap, ◌∙◌}
-use Prim.Native.Nat.{ℕ, ◌+◌, ◌*◌, ◌≤◌, ◌<◌, ◌^◌}
-use native.Mathlib.Nat.{add-zero, pow-suc}
-use native.Mathlib.Numerals.{add-one}
-use native.Mathlib.Omega.{arith}
-use lib.Pow.{pow_mono}
-use Rattle.runs.specs.Runs.{present, present_next, mark_none, mark_some}
-use Rattle.runs.proofs.letters_of.Goals.{In-loop-i, else-tally-i-eq0, then-tally-i-eq0}
+-- `runs::letters_of` meets its contract. The loop's invariant: the word is that of the letters passed, and has as many bits. Assumes nothing.
+use Rattle.std.proofs.Common.{◌≡◌, ℕ, zero, suc, ◌+◌, ◌*◌, ◌^◌, ◌<◌, ◌≤◌, not, eqb, get_or, refl, ◌∙◌, ap, ne_eqb, add-one, pow-suc, arith}
+use Rattle.std.proofs.Math.Pow.{pow_mono}
+use mir.Val.{bool_byte}
+use Rattle.runs.specs.Runs.{mark, present, present_next}
 use Rattle.runs.proofs.letters_of.Goals as goal
 
+-- the bit of a letter
+marked : (count : ℕ) → bool_byte (not (eqb count 0)) ≡ mark count
+unfolding mark
+marked zero = refl
+marked (suc c) = rw (ne_eqb (suc c) 0 (λ e. omega arith))
+
 -- a bit more fits
-room : {w i n : ℕ} → w < 2 ^ i → i < n → n ≤ 64 → (w * 2 + 1 < 2 ^ (i + 1)) × (w * 2 + 1 < 2 ^ 64)
-room {w} {i} {n} h l m =
-    let s : i + 1 ≤ 64 = omega arith in
-    let p : 2 ^ (i + 1) ≡ 2 ^ i * 2 = ap (λ (k : ℕ). 2 ^ k) (add-one i) ∙ pow-suc 2 i in
-    let a : w * 2 + 1 < 2 ^ (i + 1) = omega (arith, p) in
-    (a, omega (arith, a, pow_mono s))
+longer : (w i b : ℕ) → w < 2 ^ i → w * 2 + mark b < 2 ^ (i + 1)
+unfolding mark
+longer w i zero h = let e : 2 ^ (i + 1) ≡ 2 ^ i * 2 = ap (λ (k : ℕ). 2 ^ k) (add-one i) ∙ pow-suc 2 i in omega (arith, e)
+longer w i (suc b) h = let e : 2 ^ (i + 1) ≡ 2 ^ i * 2 = ap (λ (k : ℕ). 2 ^ k) (add-one i) ∙ pow-suc 2 i in omega (arith, e)
 
--- the same in a turn
-room_in : (c : goal.In-loop-i) → (c.loop-i.word * 2 + 1 < 2 ^ (c.loop-i.i + 1)) × (c.loop-i.word * 2 + 1 < 2 ^ 64)
-room_in c = room c.loop-i.invariant.2 c.loop-i-test.true c.requires
+-- the bit of a turn, and the word with it
+bit : (c : goal.After-from) → c.from.result ≡ mark (get_or c.args.tally.now c.loop-count.count-index 0)
+bit c = c.from.ensures ∙ marked _
 
-pub loop-i-init : goal.loop-i-init
+more : (c : goal.After-from) → c.loop-count.word * 2 + c.from.result < 2 ^ (c.loop-count.count-index + 1)
+more c = rw (bit c) (longer c.loop-count.word c.loop-count.count-index _ c.loop-count.invariant.fits)
+
+pub loop-count-init : goal.loop-count-init
 unfolding present
-loop-i-init c = (omega arith, refl, omega arith)
+loop-count-init c = record { word = refl; fits = omega arith }
 
-pub loop-i-preserved : goal.loop-i-preserved
-loop-i-preserved c =
-    let inv = c.loop-i.invariant in
-    let fits = (room_in (goal.at.loop-i-preserved c).In-loop-i).0 in
-    elim c.if-tally-i-eq0.branch [
-      | then-tally-i-eq0 w ↦ (omega arith, present_next c.args.tally.now c.loop-i-test.true inv.1 (mark_none w.if-tally-i-eq0.true) (w.word-is ∙ sym (add-zero _)), omega (arith, fits, w.word-is))
-      | else-tally-i-eq0 w ↦ (omega arith, present_next c.args.tally.now c.loop-i-test.true inv.1 (mark_some _ w.if-tally-i-eq0.false) w.word-is, omega (arith, fits, w.word-is))
-    ]
+pub overflow_add-word : goal.overflow_add-word
+overflow_add-word c =
+    let i : c.loop-count.count-index + 1 ≤ 64 = omega arith in
+    let most : 2 ^ (c.loop-count.count-index + 1) ≤ 2 ^ 64 = pow_mono i in
+    omega (arith, more c)
+
+pub loop-count-preserved : goal.loop-count-preserved
+loop-count-preserved c =
+    let at = c.loop-count in
+    record {
+      word = present_next c.args.tally.now c.loop-count-test.true at.invariant.word refl (ap (λ (b : ℕ). at.word * 2 + b) (bit c));
+      fits = more c;
+    }

@@ -4,4 +4,4 @@ use Rattle.scatter.specs.Play.{Capped}
 use Rattle.scatter.proofs.fill_caps.Given as goal
 
 abbrev pub invariant-loop-t : goal.invariant-loop-t
-invariant-loop-t l = (l.t-end ≡ length l.tally) × Capped l.unseen l.tally l.t l.out
+invariant-loop-t l = (l.t-end ≡ length l.out) × Capped l.unseen l.tally l.t l.out

@@ -10,6 +10,7 @@ use lib.IntN.{ℤ}
 use Rattle.laws.specs.Integer.{sfits_nat_abs, sfits_read, read_sum}
 use Rattle.search.specs.Split.{small}
 use Rattle.search.specs.Best.{and_false, and_false_left, guarded_in, guarded_out, sum_small}
+use Rattle.search.proofs.sum_guarded.Goals.{else-is_small-via-then-is_small+else-is_small-2, else-is_small-via-else-is_small}
 use Rattle.search.proofs.sum_guarded.Goals as goal
 
 -- the answer of a test, which reads its argument back from bits
@@ -28,10 +29,9 @@ returns-then-is_small-2 c =
     let b = told c.ranges.b c.is_small-then-is_small.ensures c.if-is_small-2.true in
     read_sum w32 c.ranges.a c.ranges.b (sfits_nat_abs (sum_small c.args.a c.args.b a b) (omega arith)) ∙ sym (guarded_in c.args.a c.args.b a b)
 
-pub returns-else-is_small-2 : goal.returns-else-is_small-2
-returns-else-is_small-2 c =
-    sym (guarded_out c.args.a c.args.b (and_false (small c.args.a) (small c.args.b) (told c.ranges.b c.is_small-then-is_small.ensures c.if-is_small-2.false)))
-
 pub returns-else-is_small : goal.returns-else-is_small
 returns-else-is_small c =
-    sym (guarded_out c.args.a c.args.b (and_false_left (small c.args.a) (small c.args.b) (told c.ranges.a c.is_small.ensures c.if-is_small.false)))
+    sym (guarded_out c.args.a c.args.b (elim c.else-is_small.branch [
+      | else-is_small-via-then-is_small+else-is_small-2 w ↦ and_false (small c.args.a) (small c.args.b) (told c.ranges.b w.is_small-then-is_small.ensures w.if-is_small-2.false)
+      | else-is_small-via-else-is_small w ↦ and_false_left (small c.args.a) (small c.args.b) (told c.ranges.a c.is_small.ensures w.if-is_small.false)
+    ]))

@@ -1,9 +1,8 @@
-use Rattle.std.proofs.Common.{ℕ, true, sym, refl, ap, subst, ◌∙◌, arith}
+use Rattle.std.proofs.Common.{sym, refl, ◌∙◌, arith}
 use mathlib.Core.Bool.{false≢true}
 use Rattle.std.proofs.lemmas.Result.{err_from_is_err_and}
-use Rattle.lattice.specs.Answers.{served}
 use Rattle.table_sums.specs.Table.{sizes, lengths}
-use Rattle.table_sums.specs.Calls.{sized_of, not_sized, own_sized, own_apportioned, refused}
+use Rattle.table_sums.specs.Calls.{sized_of, not_sized, refused}
 use Rattle.table_sums.proofs.apportion_table.Goals as goal
 
 pub returns-in_err-sizes : goal.returns-in_err-sizes
@@ -19,12 +18,8 @@ returns-then-not-lengths_fit c =
 
 pub apportion_sized-requires : goal.apportion_sized-requires
 apportion_sized-requires c =
-    let s = c.in_ok-sizes.sizes in
-    let z = sized_of s.counts (c.if-not-lengths_fit.ensures.0 refl) in
-    record { sizes = ap (λ k. served k s.r) z.letters ∙ s.is_served; lengths = own_sized z }
+    sized_of c.in_ok-sizes.sizes.counts (c.if-not-lengths_fit.ensures.0 refl)
 
 pub returns : goal.returns
 returns c =
-    let s = c.in_ok-sizes.sizes in
-    let z = sized_of s.counts (c.if-not-lengths_fit.ensures.0 refl) in
-    rw (← c.in_ok-sizes.ensures.0, ← c.in_ok-sizes.ensures.1) (own_apportioned z.letters c.apportion_sized.ensures)
+    rw (← c.in_ok-sizes.ensures.0, ← c.in_ok-sizes.ensures.1) c.apportion_sized.ensures

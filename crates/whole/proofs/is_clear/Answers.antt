@@ -1,8 +1,7 @@
 -- +0.0 has the bit pattern 0, and no other value has it. Assumes nothing.
-use Rattle.std.proofs.Common.{◌≡◌, sym, ap, ◌∙◌}
-use mathlib.Core.Bool.{true, false, not, false≢true}
-use lib.Dec.{T}
-use lib.Ieee.{Float, is_nan}
+use Rattle.std.proofs.Common.{sym, ap, ◌∙◌}
+use mathlib.Core.Bool.{not, false≢true}
+use lib.Ieee.{is_nan}
 use Rattle.whole.proofs.Tests.{of_true, not_nan, zero_number, clear_bits, bits_clear}
 use Rattle.whole.proofs.is_clear.Goals as goal
 

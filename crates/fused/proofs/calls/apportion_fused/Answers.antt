@@ -2,7 +2,7 @@
 use Rattle.std.proofs.Common.{refl, ap, arith}
 use Rattle.std.proofs.lemmas.Result.{err_from_is_err_and}
 use Rattle.lattice.specs.declared.sizes.Sizes.{Sizes}
-use Rattle.maxima.proofs.Laws.{code_some}
+use Rattle.refusal.specs.Refusal.{code_some}
 use Rattle.fused.specs.Answer.{FusedNumber, accepted_of}
 use Rattle.fused.proofs.Refusals.{refused, accepts}
 use Rattle.fused.proofs.calls.apportion_fused.Goals as goal

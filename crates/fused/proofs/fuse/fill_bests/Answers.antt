@@ -2,14 +2,13 @@
 use Rattle.std.proofs.Common.{refl, sym, ◌∙◌, length-take-le}
 use Rattle.lattice.specs.Served.{facts}
 use Rattle.fused.specs.Fuse.{splitting, scattering, bests_alone, bests_scattered, bests_split, racks_after}
-use Rattle.fused.proofs.Judges.{whole}
 use Rattle.fused.proofs.Sources.{from_sheet, from_scatter, from_split}
 use Rattle.fused.proofs.fuse.fill_bests.Goals as goal
 
 pub subset_max-requires : goal.subset_max-requires
 subset_max-requires c =
-    let s = c.args.ranks.now.sizes in
-    record { in_src = c.requires.sound.lengths.in_sheet ∙ sym (whole s); in_dst = c.requires.room ∙ sym (whole s) }
+    let t = c.args.ranks.now in
+    record { starts = t.sizes.starts; by_index = t.by_index; in_src = c.requires.sound.lengths.in_sheet; in_dst = c.requires.room }
 
 pub returns-in-Sheet : goal.returns-in-Sheet
 returns-in-Sheet c =

@@ -1,7 +1,7 @@
 -- The sums are folded or spread over the same ways and bests. Assumes nothing.
 use Rattle.std.proofs.Common.{refl, sym, ◌∙◌, length-take-le}
 use Rattle.lattice.specs.Served.{facts}
-use Rattle.fused.specs.Fuse.{pool_fits, deals_after, fold_sized, fold_after, spreading, spread_after}
+use Rattle.fused.specs.Fuse.{pool_fits, deals_after, racks_full, fold_after, spread_after}
 use Rattle.fused.proofs.Judges.{whole}
 use Rattle.fused.proofs.fuse.fuse.Goals as goal
 
@@ -12,16 +12,31 @@ pub fill_bests-requires : goal.fill_bests-requires
 fill_bests-requires c =
     record { room = c.requires.lengths.in_maxsheet; sound = c.requires.sound; ways = deals_after c.requires c.deal_racks.ensures }
 
-pub fold_zeta-requires : goal.fold_zeta-requires
-fold_zeta-requires c =
+pub invariant_of-racks : goal.invariant_of-racks
+invariant_of-racks c =
     let p = c.requires in
     let s = c.args.ranks.now.sizes in
     let b = c.fill_bests.ensures in
     record {
-      inside = b.long ∙ p.lengths.in_maxsheet ∙ sym (whole s);
-      letters = p.sound.lengths.in_pool;
-      sized = fold_sized p s.starts (deals_after p c.deal_racks.ensures) b;
+      bests = b.long ∙ p.lengths.in_maxsheet ∙ sym (whole s);
+      full = racks_full p s.starts (deals_after p c.deal_racks.ensures) b;
     }
+
+pub invariant_of-racks-else-board : goal.invariant_of-racks-else-board
+invariant_of-racks-else-board c =
+    let p = c.requires in
+    let s = c.args.ranks.now.sizes in
+    let b = c.fill_bests.ensures in
+    record {
+      bests = b.long ∙ p.lengths.in_maxsheet ∙ sym (whole s);
+      full = racks_full p s.starts (deals_after p c.deal_racks.ensures) b;
+    }
+
+pub fold_zeta-requires : goal.fold_zeta-requires
+fold_zeta-requires c =
+    let p = c.requires in
+    let s = c.args.ranks.now.sizes in
+    record { letters = p.sound.lengths.in_pool; nums = p.lengths.in_num ∙ sym s.starts; dens = p.lengths.in_den ∙ sym s.starts }
 
 pub slice_bounds-tally-end : goal.slice_bounds-tally-end
 slice_bounds-tally-end c = let s = c.args.ranks.now.sizes in (facts s.n s.r s.is_served).letters
@@ -30,13 +45,7 @@ pub slice_bounds-spread_racks-end : goal.slice_bounds-spread_racks-end
 slice_bounds-spread_racks-end c = let s = c.args.ranks.now.sizes in sym (length-take-le _ _ (facts s.n s.r s.is_served).letters)
 
 pub spread_racks-requires : goal.spread_racks-requires
-spread_racks-requires c =
-    let p = c.requires in
-    let s = c.args.ranks.now.sizes in
-    record {
-      tally = length-take-le _ _ (facts s.n s.r s.is_served).letters;
-      tables = spreading p s.starts (deals_after p c.deal_racks.ensures) c.fill_bests.ensures refl;
-    }
+spread_racks-requires c = let s = c.args.ranks.now.sizes in length-take-le _ _ (facts s.n s.r s.is_served).letters
 
 pub returns-then-board : goal.returns-then-board
 returns-then-board c =

@@ -1,17 +1,10 @@
-use Rattle.std.proofs.Common.{◌≡◌, ℕ, ◌*◌, true, false, eqb, length, sym, ap, ◌∙◌, inl, inr, ⊎_elim, eq-eqb, eqb-true, arith}
+use Rattle.std.proofs.Common.{◌≡◌, ℕ, ◌*◌, true, false, eqb, length, sym, ◌∙◌, inl, inr, ⊎_elim, eq-eqb, eqb-true, arith}
 use mathlib.Core.Bool.{false≢true}
 use Rattle.std.proofs.lemmas.Result.{err_from_is_err_and}
 use Rattle.lattice.specs.Tally.{start}
-use Rattle.lattice.specs.Served.{facts}
 use Rattle.lattice.specs.TableCalls.LetterNumber.{accepted, sizes, lengths, no_letter, rule}
-use Rattle.lattice.specs.declared.sizes.Sizes.{Sizes}
-use Rattle.lattice.proofs.AddWalk.{table_fits}
-use Rattle.lattice.proofs.Lattice.part.Goals.{Joined-else-not-is_empty, else-not-is_empty-via-then-not-is_empty+else-by_letter-sizes, else-not-is_empty-via-else-not-is_empty}
+use Rattle.lattice.proofs.Lattice.part.Goals.{Joined-else-not-is_empty, else-not-is_empty-via-then-not-is_empty+else-by_letter-entries, else-not-is_empty-via-else-not-is_empty}
 use Rattle.lattice.proofs.Lattice.part.Goals as goal
-
--- the whole table's length
-whole : (s : Sizes) → s.leaves * s.n ≡ start s.n s.r * s.n
-whole s = ap (λ k. k * s.n) s.starts
 
 -- what the test of no entries says
 none : {k : ℕ} → true ≡ eqb k 0 → k ≡ 0
@@ -25,23 +18,18 @@ returns-in_err-sizes-clause-number c =
     let p = err_from_is_err_and c.from_residual.result c.from_residual.ensures.1 in
     rw (p.1, p.2, c.in_err-sizes.ensures.0) (sizes c.in_err-sizes.ensures.1)
 
-pub overflow_mul-sizes : goal.overflow_mul-sizes
-overflow_mul-sizes c =
-    let s = c.in_ok-sizes.sizes in
-    omega (arith, whole s, table_fits s.n s.r (facts s.n s.r s.is_served))
-
-pub returns-then-by_letter-sizes-clause-number : goal.returns-then-by_letter-sizes-clause-number
-returns-then-by_letter-sizes-clause-number c =
+pub returns-then-by_letter-entries-clause-number : goal.returns-then-by_letter-entries-clause-number
+returns-then-by_letter-entries-clause-number c =
     let s = c.in_ok-sizes.sizes in
     rw (← c.in_ok-sizes.ensures.0, ← c.in_ok-sizes.ensures.1)
-    (lengths s.is_served (some c.if-not-is_empty.ensures) (λ e. c.if-by_letter-sizes.true (e ∙ sym (whole s))))
+    (lengths s.is_served (some c.if-not-is_empty.ensures) (λ e. c.if-by_letter-entries.true (e ∙ sym (c.entries.ensures))))
 
 pub returns-then-sizes-t-clause-number : goal.returns-then-sizes-t-clause-number
 returns-then-sizes-t-clause-number c =
     let s = c.in_ok-sizes.sizes in
     rw (← c.in_ok-sizes.ensures.0, ← c.in_ok-sizes.ensures.1)
     (no_letter s.is_served (elim c.else-not-is_empty.branch [
-      | else-not-is_empty-via-then-not-is_empty+else-by_letter-sizes w ↦ inr (w.if-by_letter-sizes.false ∙ whole s)
+      | else-not-is_empty-via-then-not-is_empty+else-by_letter-entries w ↦ inr (w.if-by_letter-entries.false ∙ w.entries.ensures)
       | else-not-is_empty-via-else-not-is_empty w ↦ inl (none w.if-not-is_empty.ensures)
     ]) (λ h. omega arith))
 
@@ -53,7 +41,7 @@ returns-then-is_empty-clause-number c =
 -- a table that has entries is whole
 full : (c : goal.Joined-else-not-is_empty) → (length c.args.by_letter.now ≡ 0 → ⊥) → length c.args.by_letter.now ≡ start c.in_ok-sizes.sizes.n c.in_ok-sizes.sizes.r * c.in_ok-sizes.sizes.n
 full c f = elim c.else-not-is_empty.branch [
-  | else-not-is_empty-via-then-not-is_empty+else-by_letter-sizes w ↦ w.if-by_letter-sizes.false ∙ whole c.in_ok-sizes.sizes
+  | else-not-is_empty-via-then-not-is_empty+else-by_letter-entries w ↦ w.if-by_letter-entries.false ∙ w.entries.ensures
   | else-not-is_empty-via-else-not-is_empty w ↦ absurd (f (none w.if-not-is_empty.ensures))
 ]
 

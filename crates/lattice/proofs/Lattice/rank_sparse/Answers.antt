@@ -1,10 +1,10 @@
-use Rattle.std.proofs.Common.{ℕ, ◌≤◌, ◌+◌, ◌-◌, refl, ◌∙◌, arith}
+use Rattle.std.proofs.Common.{ℕ, ◌≤◌, ◌+◌, ◌-◌, refl, arith}
 use Rattle.std.proofs.lemmas.Result.{err_from_is_err_and}
 use Rattle.binomials.specs.Binomial.{table_monotone}
 use Rattle.lattice.specs.Served.{facts, length_small}
 use Rattle.lattice.proofs.Calls.{rank_sparse_gives}
-use Rattle.lattice.proofs.Sparse.{Ended, taken_none, taken_wrong, taken_more, taken_all, ended_small, not_served, not_even, not_ascending, not_fitting, ranked}
-use Rattle.lattice.proofs.Lattice.rank_sparse.Goals.{After-loop-i, After-start_of, then-tiles-count, else-tiles-count, then-tiles-s-via-then-tiles-s, then-tiles-s-via-else-tiles-s+then-sizes-s}
+use Rattle.lattice.proofs.Sparse.{Ended, taken_none, taken_wrong, taken_small, taken_many, taken_more, taken_all, ended_small, not_served, not_even, not_ascending, too_many, not_fitting, ranked}
+use Rattle.lattice.proofs.Lattice.rank_sparse.Goals.{After-loop-i, After-start_of}
 use Rattle.lattice.proofs.Lattice.rank_sparse.Goals as goal
 
 pub returns-in_err-sizes : goal.returns-in_err-sizes
@@ -26,8 +26,15 @@ returns-then-high-letter c =
     rw (← c.in_ok-sizes.ensures.0, ← c.in_ok-sizes.ensures.1)
     (rank_sparse_gives (not_ascending _ _ _ _ _ s.is_served c.if-letters-counts.false (taken_wrong c.loop-i.invariant c.loop-i-test.true (omega (arith, c.if-high-letter.true, c.from-letter.ensures)))))
 
+pub returns-then-sizes-tiles : goal.returns-then-sizes-tiles
+returns-then-sizes-tiles c =
+    let s = c.in_ok-sizes.sizes in
+    let many = taken_many c.loop-i.invariant c.loop-i-test.true c.if-letters-counts.false (omega (arith, c.if-sizes-tiles.true, c.from-count.ensures)) in
+    rw (← c.in_ok-sizes.ensures.0, ← c.in_ok-sizes.ensures.1)
+    (rank_sparse_gives (rw c.too_many.ensures (too_many _ _ _ _ _ s.is_served c.if-letters-counts.false many)))
+
 pub overflow_add-tiles : goal.overflow_add-tiles
-overflow_add-tiles c = let f = facts _ _ c.in_ok-sizes.sizes.is_served in omega (arith, c.loop-i.invariant.room, c.type_inv.counts (c.loop-i.i - 1), c.from-count.ensures)
+overflow_add-tiles c = let f = facts _ _ c.in_ok-sizes.sizes.is_served in omega (arith, c.loop-i.invariant.few, c.type_inv.counts (c.loop-i.i - 1), c.from-count.ensures)
 
 pub passed-before-requires : goal.passed-before-requires
 passed-before-requires c = let f = facts _ _ c.in_ok-sizes.sizes.is_served in record { letters = omega arith; tiles = omega arith }
@@ -38,26 +45,15 @@ overflow_add-before c =
     let f = facts s.n s.r s.is_served in
     let m : ℕ = s.n - 1 - c.from-letter.result in
     let few = table_monotone {p = c.from-count.result + c.loop-i.tiles} {q = s.r} {j = m} {k = s.n} (omega arith) (omega arith) in
-    omega (arith, c.passed-before.ensures, few, length_small s.n s.r f, c.loop-i.invariant.small)
-
-pub overflow_add-tiles-in-loop-i : goal.overflow_add-tiles-in-loop-i
-overflow_add-tiles-in-loop-i c = let f = facts _ _ c.in_ok-sizes.sizes.is_served in omega (arith, c.loop-i.invariant.room, c.type_inv.counts (c.loop-i.i - 1), c.from-count.ensures)
+    omega (arith, c.passed-before.ensures, few, length_small s.n s.r f, taken_small f c.loop-i.invariant c.if-letters-counts.false)
 
 pub loop-i-preserved : goal.loop-i-preserved
 loop-i-preserved c =
-    let s = c.in_ok-sizes.sizes in
     rw c.from-letter.ensures
-    (taken_more (facts s.n s.r s.is_served) c.loop-i.invariant c.loop-i-test.true c.if-letters-counts.false
-    (omega (arith, c.if-high-letter.false, c.from-letter.ensures)) (omega (arith, c.type_inv.counts (c.loop-i.i - 1)))
-    (omega (arith, c.from-count.ensures))
-    (λ h. elim c.if-tiles-count.branch [
-      | then-tiles-count w ↦ w.before-is ∙ rw (w.passed-before.ensures, c.from-count.ensures, c.from-letter.ensures) refl
-      | else-tiles-count w ↦ absurd (omega arith)
-    ])
-    (λ h. elim c.if-tiles-count.branch [
-      | then-tiles-count w ↦ absurd (omega arith)
-      | else-tiles-count w ↦ w.before-is
-    ]))
+    (taken_more c.loop-i.invariant c.loop-i-test.true c.if-letters-counts.false
+    (omega (arith, c.if-high-letter.false, c.from-letter.ensures))
+    (omega (arith, c.from-count.ensures)) (omega arith)
+    (rw (c.passed-before.ensures, c.from-count.ensures, c.from-letter.ensures) refl))
 
 -- at the end every item is counted
 ended : (c : goal.After-loop-i) → Ended c.in_ok-sizes.sizes.n c.in_ok-sizes.sizes.r c.loop-i.tiles c.loop-i.before c.args.letters.now c.args.counts.now
@@ -67,24 +63,19 @@ pub returns-then-tiles-s : goal.returns-then-tiles-s
 returns-then-tiles-s c =
     let s = c.in_ok-sizes.sizes in
     rw (← c.in_ok-sizes.ensures.0, ← c.in_ok-sizes.ensures.1)
-    (rank_sparse_gives (not_fitting _ _ _ _ _ s.is_served c.if-letters-counts.false (ended (goal.at.returns-then-tiles-s c).After-loop-i)
-    (λ e few. elim c.then-tiles-s.branch [
-      | then-tiles-s-via-then-tiles-s w ↦ w.if-tiles-s.true e
-      | then-tiles-s-via-else-tiles-s+then-sizes-s w ↦ absurd (omega (arith, few, w.if-sizes-s.true))
-    ])))
+    (rank_sparse_gives (not_fitting _ _ _ _ _ s.is_served c.if-letters-counts.false (ended (goal.at.returns-then-tiles-s c).After-loop-i) c.if-tiles-s.true))
 
 pub start_of-requires : goal.start_of-requires
 start_of-requires c =
     let f = facts _ _ c.in_ok-sizes.sizes.is_served in
-    record { letters = f.letters; tiles = omega arith }
+    record { letters = f.letters; tiles = omega (arith, c.loop-i.invariant.few) }
 
 -- the rank is small
 small : (c : goal.After-start_of) → c.start_of.result + c.loop-i.before ≤ 4294967294
 small c =
     let s = c.in_ok-sizes.sizes in
     let e = ended (goal.at.After-start_of c).After-loop-i in
-    let few : c.loop-i.tiles ≤ s.r = omega arith in
-    omega (arith, c.start_of.ensures, e.place few, ended_small e (facts s.n s.r s.is_served) few)
+    omega (arith, c.start_of.ensures, e.place, ended_small e (facts s.n s.r s.is_served))
 
 pub overflow_add-result : goal.overflow_add-result
 overflow_add-result c = omega (arith, small c)
@@ -96,6 +87,5 @@ pub returns : goal.returns
 returns c =
     let s = c.in_ok-sizes.sizes in
     let e = ended (goal.at.returns c).After-loop-i in
-    let few : c.args.s ≤ s.r = c.if-sizes-s.false in
     rw (← c.in_ok-sizes.ensures.0, ← c.in_ok-sizes.ensures.1)
-    (rank_sparse_gives (rw (c.start_of.ensures, e.place (omega (arith, c.if-tiles-s.false))) (ranked _ _ _ _ _ s.is_served c.if-letters-counts.false e c.if-tiles-s.false few)))
+    (rank_sparse_gives (rw (c.start_of.ensures, e.place) (ranked _ _ _ _ _ s.is_served c.if-letters-counts.false e c.if-tiles-s.false)))

@@ -1,29 +1,26 @@
 -- `lattice::add::add_is_right` meets its contract. The invariant is that of `fill_table`; a row that is not right refutes the table. Assumes nothing.
-use Rattle.std.proofs.Common.{◌*◌, take, ◌∙◌, true≢false, arith}
+use Rattle.std.proofs.Common.{ℕ, ◌*◌, take, ap, ◌∙◌, true≢false, arith}
 use mathlib.Core.Bool.{false≢true}
 use Rattle.lattice.specs.Tables.{up}
 use Rattle.lattice.specs.Served.{facts}
 use Rattle.lattice.specs.AddRows.{Decides, RowAt}
 use Rattle.lattice.specs.AddRow.{row_top}
-use Rattle.lattice.proofs.AddWalk.{more_right, right_in, table_done, table_fits, row_place, walk_letters}
+use Rattle.lattice.proofs.AddWalk.{more_right, right_in, table_done, row_place, walk_letters}
 use Rattle.lattice.proofs.AddClose.{decides_part}
 use Rattle.lattice.proofs.add.add_is_right.Goals.{After-is_right}
 use Rattle.lattice.proofs.add.add_is_right.Goals as goal
 
-pub overflow_mul-rows : goal.overflow_mul-rows
-overflow_mul-rows c = rw c.leaves-rows.ensures (omega (arith, table_fits c.args.n c.args.r (facts c.args.n c.args.r c.requires)))
-
-pub returns-then-add-rows : goal.returns-then-add-rows
-returns-then-add-rows c = record {
+pub returns-then-add-entries : goal.returns-then-add-entries
+returns-then-add-entries c = record {
   yes = λ x. absurd (false≢true x);
-  no = λ x table. c.if-add-rows.true (rw c.leaves-rows.ensures table.rows);
+  no = λ x table. c.if-add-entries.true (rw c.entries.ensures table.rows);
 }
 
 -- what the judge of a row tells of the table
-judged : (c : goal.After-is_right) → Decides c.is_right.result (RowAt (row_top c.loop-rank.walk.n c.loop-rank.walk.rank (take c.loop-rank.walk.n c.loop-rank.walk.tails)) (take c.loop-rank.walk.n c.loop-rank.walk.tails) (c.loop-rank.rank * c.args.n) c.args.add.now)
+judged : (c : goal.After-is_right) → Decides c.is_right.result (RowAt (row_top c.loop-rank.walk.n c.loop-rank.walk.rank (take c.loop-rank.walk.n c.loop-rank.walk.tails)) (take c.loop-rank.walk.n c.loop-rank.walk.tails) (c.loop-rank.rank * c.args.sizes.n) c.args.add.now)
 judged c =
     let at = c.loop-rank in
-    decides_part _ _ (at.rank * c.args.n) c.args.n c.args.add.now _ (walk_letters at.walk.sizes at.walk.tails_of at.walk.inside ∙ at.invariant.letters) c.is_right.ensures
+    decides_part _ _ (at.rank * c.args.sizes.n) c.args.sizes.n c.args.add.now _ (walk_letters at.walk.sizes at.walk.tails_of at.walk.inside ∙ at.invariant.letters) c.is_right.ensures
 
 pub returns-then-not-is_right : goal.returns-then-not-is_right
 returns-then-not-is_right c =
@@ -33,7 +30,7 @@ returns-then-not-is_right c =
     record {
       yes = λ x. absurd (false≢true x);
       no = λ x table. (judged (goal.at.returns-then-not-is_right c).After-is_right).no c.if-not-is_right.true
-          (right_in known.letters known.tiles known.at at.walk.sizes at.walk.tails_of (omega (arith, c.loop-rank-test.true, c.leaves-rows.ensures)) (λ i t. up a.n a.add.now t i) table.entry);
+          (right_in known.letters known.tiles known.at at.walk.sizes at.walk.tails_of (omega (arith, c.loop-rank-test.true, c.args.sizes.starts)) (λ i t. up a.sizes.n a.add.now t i) table.entry);
     }
 
 pub loop-rank-preserved : goal.loop-rank-preserved
@@ -47,9 +44,9 @@ loop-rank-preserved c =
       letters = step.n ∙ known.letters;
       tiles = step.r ∙ known.tiles;
       at = omega (arith, step.rank, known.at);
-      rows = more_right known.letters known.tiles known.at at.walk.sizes at.walk.tails_of (omega (arith, c.loop-rank-test.true, c.leaves-rows.ensures)) (λ i t. up a.n a.add.now t i) known.rows right;
-      before = step.before (at.rank * a.n) a.add.now right;
-      inside = omega (arith, c.advance.new.self.some_new, step.n, known.letters, row_place a.n _ at.rank c.loop-rank-test.true, c.if-add-rows.false);
+      rows = more_right known.letters known.tiles known.at at.walk.sizes at.walk.tails_of (omega (arith, c.loop-rank-test.true, c.args.sizes.starts)) (λ i t. up a.sizes.n a.add.now t i) known.rows right;
+      before = step.before (at.rank * a.sizes.n) a.add.now right;
+      inside = omega (arith, c.advance.new.self.some_new, step.n, known.letters, row_place a.sizes.n _ at.rank c.loop-rank-test.true, c.if-add-entries.false, c.entries.ensures, ap (λ (k : ℕ). k * a.sizes.n) a.sizes.starts);
     }
 
 pub returns : goal.returns
@@ -57,6 +54,6 @@ returns c =
     let a = c.args in
     let known = c.loop-rank.invariant in
     record {
-      yes = λ x. table_done a.n a.r (facts a.n a.r c.requires) a.add.now (rw c.leaves-rows.ensures at c.if-add-rows.false) (λ j t x y. known.rows j t (omega (arith, c.leaves-rows.ensures, c.loop-rank-test.false)) y);
+      yes = λ x. table_done a.sizes.n a.sizes.r (facts a.sizes.n a.sizes.r c.args.sizes.is_served) a.add.now (c.if-add-entries.false ∙ c.entries.ensures) (λ j t x y. known.rows j t (omega (arith, c.args.sizes.starts, c.loop-rank-test.false)) y);
       no = λ x table. absurd (true≢false x);
     }

@@ -16,13 +16,13 @@ loop-rank-preserved c =
       tiles = step.r ∙ known.tiles;
       at = omega (arith, step.rank, known.at);
       size = c.put.ensures.size ∙ known.size;
-      rows = more_written known.letters known.tiles known.at w.sizes w.tails_of (omega (arith, c.loop-rank-test.true, c.leaves-rank-end.ensures)) at.add _ known.rows c.put.ensures;
-      before = step.before (at.rank * a.n) c.put.new.add c.put.ensures.row;
-      apart = omega (arith, c.advance.new.self.some_new, step.n, known.letters, add-mul at.rank 1 a.n, one-mul a.n);
+      rows = more_written known.letters known.tiles known.at w.sizes w.tails_of (omega (arith, c.loop-rank-test.true, c.args.sizes.starts)) at.add _ known.rows c.put.ensures;
+      before = step.before (at.rank * a.sizes.n) c.put.new.add c.put.ensures.row;
+      apart = omega (arith, c.advance.new.self.some_new, step.n, known.letters, add-mul at.rank 1 a.sizes.n, one-mul a.sizes.n);
     }
 
 pub returns : goal.returns
 returns c =
     let a = c.args in
     let known = c.loop-rank.invariant in
-    table_done a.n a.r (facts a.n a.r c.requires.served) c.loop-rank.add (known.size ∙ c.requires.size) (λ j t x y. known.rows j t (omega (arith, c.leaves-rank-end.ensures, c.loop-rank-test.false)) y)
+    table_done a.sizes.n a.sizes.r (facts a.sizes.n a.sizes.r a.sizes.is_served) c.loop-rank.add (known.size ∙ c.requires) (λ j t x y. known.rows j t (omega (arith, c.args.sizes.starts, c.loop-rank-test.false)) y)

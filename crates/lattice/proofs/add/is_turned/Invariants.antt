@@ -3,4 +3,4 @@ use Rattle.lattice.proofs.AddLetters.{RowsSame}
 use Rattle.lattice.proofs.add.is_turned.Given as goal
 
 abbrev pub invariant-loop-idx : goal.invariant-loop-idx
-invariant-loop-idx l = RowsSame l.n l.rows l.idx l.add l.by_letter
+invariant-loop-idx l = RowsSame l.sizes.n l.sizes.leaves l.idx l.add l.by_letter

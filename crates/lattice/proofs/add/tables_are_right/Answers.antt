@@ -10,8 +10,8 @@ returns-else-is_empty c =
     let a = c.args in
     let ranks = c.add_is_right.ensures.yes c.if-add_is_right.true in
     let some : 0 < length a.by_letter.now = grind (arith, nat_tests) in
-    let judged = subst (λ (k : ℕ). Decides c.is_turned.result (Turned a.n k a.add.now a.by_letter.now)) c.requires.rows c.is_turned.ensures in
+    let judged = subst (λ (k : ℕ). Decides c.is_turned.result (Turned a.sizes.n k a.add.now a.by_letter.now)) a.sizes.starts c.is_turned.ensures in
     record {
-      yes = λ x. record { add_table = ranks; by_letter = inr (turned_letters a.n a.r a.add.now a.by_letter.now ranks (judged.yes x)) };
-      no = λ x tables. ⊎_elim (λ e. omega arith) (λ letters. judged.no x (letters_turned a.n a.r a.add.now a.by_letter.now ranks letters)) tables.by_letter;
+      yes = λ x. record { add_table = ranks; by_letter = inr (turned_letters a.sizes.n a.sizes.r a.add.now a.by_letter.now ranks (judged.yes x)) };
+      no = λ x tables. ⊎_elim (λ e. omega arith) (λ letters. judged.no x (letters_turned a.sizes.n a.sizes.r a.add.now a.by_letter.now ranks letters)) tables.by_letter;
     }

@@ -1,4 +1,4 @@
-use Rattle.std.proofs.Common.{◌≡◌, ℕ, true, List, length, sym, ◌∙◌, subst, arith}
+use Rattle.std.proofs.Common.{◌≡◌, ℕ, true, List, length, sym, ◌∙◌, arith}
 use Rattle.std.proofs.lemmas.Result.{err_from_is_err_and}
 use Rattle.lattice.specs.Answers.{served}
 use Rattle.lattice.specs.Tally.{lattice}
@@ -8,7 +8,7 @@ use Rattle.lattice.specs.declared.sizes.Sizes.{Sizes}
 use Rattle.lattice.specs.RankTables.RanksNumber.{accepted, lengths, rule}
 use Rattle.maxima.specs.Maxima.{SubsetMax}
 use Rattle.maxima.specs.Answers.{Lengths, SubsetMaxNumber, refused, accepts}
-use Rattle.maxima.proofs.Laws.{code_some}
+use Rattle.refusal.specs.Refusal.{code_some}
 use Rattle.maxima.proofs.calls.subset_max_transform.Goals.{then-src-sizes-via-then-src-sizes, then-src-sizes-via-else-src-sizes+then-dst-sizes}
 use Rattle.maxima.proofs.calls.subset_max_transform.Goals as goal
 
@@ -47,9 +47,14 @@ returns-in_err-ranks c =
     let of = of_tables s.is_served (c.if-src-sizes.false ∙ whole s) (c.if-dst-sizes.false ∙ whole s) c.in_err-ranks.ensures.number in
     rw (← c.in_ok-sizes.ensures.0, ← c.in_ok-sizes.ensures.1, p.1, p.2) (refused of (code_some c.in_err-ranks.field-0.0))
 
+pub subset_max-requires-clause-in_src : goal.subset_max-requires-clause-in_src
+subset_max-requires-clause-in_src c = c.if-src-sizes.false ∙ whole c.in_ok-sizes.sizes
+
+pub subset_max-requires-clause-in_dst : goal.subset_max-requires-clause-in_dst
+subset_max-requires-clause-in_dst c = c.if-dst-sizes.false ∙ whole c.in_ok-sizes.sizes
+
 pub returns : goal.returns
 returns c =
     let s = c.in_ok-sizes.sizes in
-    let of = subst (λ (t : Sizes). SubsetMax t.n t.r c.args.src.now c.subset_max.new.dst) c.in_ok-ranks.ensures.sizes c.subset_max.ensures.greatest in
     rw (← c.in_ok-sizes.ensures.0, ← c.in_ok-sizes.ensures.1)
-    (accepts (of_tables s.is_served (c.if-src-sizes.false ∙ whole s) (c.if-dst-sizes.false ∙ whole s) c.in_ok-ranks.ensures.number) of c.subset_max.ensures.size)
+    (accepts (of_tables s.is_served (c.if-src-sizes.false ∙ whole s) (c.if-dst-sizes.false ∙ whole s) c.in_ok-ranks.ensures.number) c.subset_max.ensures.greatest c.subset_max.ensures.size)

@@ -36,13 +36,13 @@ loop-count-init t c =
     let run = c.in-Some.ensures in
     let r = ready t (goal.at.loop-count-init t c).In-Some in (
       omega arith,
-      omega (arith, c.saturating_sub-low.ensures, c.smaller-high.ensures, r.enough, split_below r run.some run.counted),
+      omega (arith, c.saturating_sub-low.ensures, c.min-high.ensures, r.enough, split_below r run.some run.counted),
       rw c.saturating_sub-low.ensures (keep_starts r run.some run.counted _),
     )
 
 -- a turn keeps no more than is left, and leaves no more than the letters before have
 fits : (t : ℕ) (c : goal.In-loop-count t) → c.loop-count.count ≤ c.args.left
-fits t c = omega (arith, c.loop-count-test.true, c.smaller-high.ensures)
+fits t c = omega (arith, c.loop-count-test.true, c.min-high.ensures)
 
 low : (t : ℕ) (c : goal.In-loop-count t) → c.args.left - (c.args.below - c.in-Some.last.count) ≤ c.loop-count.count
 low t c = omega (arith, c.loop-count.invariant.0, c.saturating_sub-low.ensures)
@@ -87,4 +87,4 @@ pub returns-in-Some-2 : goal.returns-in-Some-2
 returns-in-Some-2 t c =
     let run = c.in-Some.ensures in
     keep_over _ _ _ _ _ run.inside c.requires.ready.letters run.absent
-    (keep_done (ready t (goal.at.returns-in-Some-2 t c).In-Some) run.some run.counted (c.loop-count.count + 1) (omega (arith, c.smaller-high.ensures)) (turned t (goal.at.returns-in-Some-2 t c).After-best-found))
+    (keep_done (ready t (goal.at.returns-in-Some-2 t c).In-Some) run.some run.counted (c.loop-count.count + 1) (omega (arith, c.min-high.ensures)) (turned t (goal.at.returns-in-Some-2 t c).After-best-found))

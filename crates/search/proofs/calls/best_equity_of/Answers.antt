@@ -1,8 +1,7 @@
-use Rattle.std.proofs.Common.{sym, ap, ◌∙◌, Err, w32, rules}
+use Rattle.std.proofs.Common.{sym, ap, ◌∙◌, Err}
 use Rattle.std.proofs.lemmas.Result.{err_from_is_err_and}
-use mir.ValLaws.{to_z-of_z}
 use Rattle.search.specs.Refusals.{sized}
-use Rattle.search.proofs.Equity.{sized_held, rack_refused, rack_found, rack_beyond}
+use Rattle.search.proofs.Equity.{sized_held, rack_refused, rack_answer}
 use Rattle.search.proofs.calls.best_equity_of.Goals as goal
 
 pub returns-in_err-rack_sizes : goal.returns-in_err-rack_sizes
@@ -14,10 +13,5 @@ pub best_split-requires : goal.best_split-requires
 best_split-requires c =
     sized_held _ _ _ (sized _ _ _ _ _ (sym c.in_ok-rack_sizes.ensures.number))
 
-pub returns-in-Some : goal.returns-in-Some
-returns-in-Some c =
-    rw (to_z-of_z w32 c.in-Some.best (search rules))
-    (rack_found _ _ _ _ _ (sym c.in_ok-rack_sizes.ensures.number) c.in-Some.ensures.0 c.in-Some.ensures.1)
-
-pub returns-in-None : goal.returns-in-None
-returns-in-None c = rack_beyond _ _ _ _ _ (sym c.in_ok-rack_sizes.ensures.number) c.in-None.ensures
+pub returns : goal.returns
+returns c = rw c.ok_or.ensures.value (rack_answer _ _ _ _ _ (sym c.in_ok-rack_sizes.ensures.number) _ c.best_split.ensures)

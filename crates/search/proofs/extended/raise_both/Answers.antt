@@ -28,21 +28,21 @@ pub rank_step-requires-clause-tiles : goal.rank_step-requires-clause-tiles
 rank_step-requires-clause-tiles c = omega (arith, few (goal.at.rank_step-requires-clause-tiles c).Start, c.requires.inside)
 
 pub rank_step-requires-2-clause-tiles : goal.rank_step-requires-2-clause-tiles
-rank_step-requires-2-clause-tiles c = omega (arith, few (goal.at.rank_step-requires-2-clause-tiles c).Start, c.wide.ensures)
+rank_step-requires-2-clause-tiles c = omega (arith, few (goal.at.rank_step-requires-2-clause-tiles c).Start, c.from.ensures)
 
 pub raise_splits-requires : goal.raise_splits-requires
 raise_splits-requires c =
-    let y = ap (λ (k : ℕ). k - c.args.x) c.wide.ensures in
+    let y = ap (λ (k : ℕ). k - c.args.x) c.from.ensures in
     rw c.requires.before (side_ready c.requires.extending c.args.x c.requires.inside c.rank_step.ensures y c.rank_step-2.ensures (search rules))
 
 pub raise_splits-requires-2 : goal.raise_splits-requires-2
 raise_splits-requires-2 c =
-    let y = ap (λ (k : ℕ). k - c.args.x) c.wide.ensures in
+    let y = ap (λ (k : ℕ). k - c.args.x) c.from.ensures in
     rw c.requires.before (side_ready (exchanged c.requires.extending) c.args.x c.requires.inside c.rank_step.ensures y c.rank_step-2.ensures c.raise_splits.ensures.size)
 
 pub returns : goal.returns
 returns c =
-    let y = ap (λ (k : ℕ). k - c.args.x) c.wide.ensures in
+    let y = ap (λ (k : ℕ). k - c.args.x) c.from.ensures in
     raised_join (λ j v h. h) (λ j v h. inl h) (λ j v h. inr h)
     (side_turn c.requires.extending c.args.x c.rank_step.ensures y c.rank_step-2.ensures (rw c.requires.before at c.raise_splits.ensures))
     (side_turn (exchanged c.requires.extending) c.args.x c.rank_step.ensures y c.rank_step-2.ensures (rw c.requires.before at c.raise_splits-2.ensures))

@@ -3,7 +3,6 @@
 use mathlib.Core.Path.{◌≡◌, sym, transport}
 use Prim.Native.Nat.{◌+◌, ◌^◌, ◌<◌}
 use native.Mathlib.Omega.{arith}
-use borrow.Author.Rules.{rules}
 use lib.IntN.{ℤ}
 use lib.Signed.{mag}
 use mir.Syntax.{w32}
@@ -24,7 +23,7 @@ pub raised-requires : goal.raised-requires
 raised-requires c =
     let x = at_ℤ c.args.a.now (c.args.at + c.loop-i.i) in
     let y = at_ℤ c.args.b.now c.args.to in
-    rw (back x c.raised-arg-1.given, back y c.x-1.given)
+    rw (back x (omega arith), back y (omega arith))
     (record { left = bounded_small c.args.a.now c.requires.a_bound _; right = bounded_small c.args.b.now c.requires.b_bound _ })
 
 pub loop-i-preserved : goal.loop-i-preserved
@@ -32,5 +31,5 @@ loop-i-preserved c =
     let l = c.loop-i in
     let x = at_ℤ c.args.a.now (c.args.at + l.i) in
     let y = at_ℤ c.args.b.now c.args.to in
-    let g = read_back (at_ℤ l.run l.i) x y c.raised.result c.was-1.given c.raised-arg-1.given c.x-1.given c.raised.type_inv c.raised.ensures in
-    (search rules, search rules, search rules, passed_more (omega arith) l.invariant.3 g)
+    let g = read_back (at_ℤ l.run l.i) x y c.raised.result (omega arith) (omega arith) (omega arith) c.raised.type_inv c.raised.ensures in
+    passed_more (omega arith) l.invariant g

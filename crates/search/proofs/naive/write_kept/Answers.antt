@@ -13,8 +13,8 @@ loop-i-init c = (omega arith, refl, kept_start _ _ _ c.requires)
 pub loop-i-preserved : goal.loop-i-preserved
 loop-i-preserved c =
     let l = c.loop-i in
-    let k = c.wide-count.result in
-    let more = kept_more l.invariant.2 (omega arith) l.invariant.0 c.wide-count.ensures (ap (λ (m : ℕ). k - l.over % m) (add-one k)) (ap (λ (m : ℕ). l.over / m) (add-one k)) in
+    let k = c.from-count.result in
+    let more = kept_more l.invariant.2 (omega arith) l.invariant.0 c.from-count.ensures (ap (λ (m : ℕ). k - l.over % m) (add-one k)) (ap (λ (m : ℕ). l.over / m) (add-one k)) in
     (omega arith, more.size ∙ sym c.requires, more)
 
 pub returns : goal.returns

@@ -8,6 +8,3 @@ use Rattle.search.proofs.naive.write_kept.Given as goal
 
 abbrev pub invariant-loop-i : goal.invariant-loop-i
 invariant-loop-i l = (l.i ≤ length l.tally) × (length l.kept ≡ length l.initial.kept) × KeptLeft l.tally l.place l.i l.over l.kept
-
-abbrev pub decreases-loop-i : goal.decreases-loop-i
-decreases-loop-i l = l.i

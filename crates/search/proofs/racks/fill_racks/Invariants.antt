@@ -9,6 +9,6 @@ use Rattle.extensions.specs.Onward.{Reached}
 use Rattle.search.specs.Racks.{Filled}
 use Rattle.search.proofs.racks.fill_racks.Given as goal
 
-abbrev pub invariant-loop-rank : goal.invariant-loop-rank
-invariant-loop-rank l =
-    (l.rank ≤ start l.n l.r) × (length l.out ≡ length l.initial.out) × Filled l.sheet l.leave (λ i. true) l.n l.r l.rank l.initial.out l.out × Reached l.n l.r l.rank l.tally l.e.word l.e.stop l.e.first
+abbrev pub invariant-loop : goal.invariant-loop
+invariant-loop l =
+    (l.counter ≤ start l.n l.r) × (length l.out ≡ length l.initial.out) × Filled l.sheet l.leave (λ i. true) l.n l.r l.counter l.initial.out l.out × Reached l.n l.r l.counter l.tally l.e.word l.e.stop l.e.first

@@ -13,11 +13,15 @@ loop-c-preserved c =
     (omega arith, turned_more l.1 v.num, turned_more l.2 v.den)
 
 pub returns : goal.returns
-returns c =
+returns c = absurd (omega arith)
+
+pub returns-2 : goal.returns-2
+returns-2 c =
     let l = c.loop-c.invariant in
     let a = c.args in
-    let k = c.wide-count.ensures in
+    let k = c.from-count.ensures in
+    let v = rw (c.first-runs.ensures.tally, c.first-runs.ensures.stop) at c.spread_count.ensures in
     record {
-      num = extended_done a.tally.now (a.stop - 1) a.values.now a.num.now k l.1 (omega arith);
-      den = extended_done a.tally.now (a.stop - 1) a.ways.now a.den.now k l.2 (omega arith);
+      num = extended_done a.tally.now (a.stop - 1) a.values.now a.num.now k (turned_more l.1 v.num) (omega arith);
+      den = extended_done a.tally.now (a.stop - 1) a.ways.now a.den.now k (turned_more l.2 v.den) (omega arith);
     }

@@ -1,5 +1,5 @@
 -- The proof of the cycle of calls {gain_from}. Assumes nothing.
-use Rattle.std.proofs.Common.{ℕ, ◌+◌, ◌-◌, ◌≤◌, ap, arith}
+use Rattle.std.proofs.Common.{ℕ, ◌+◌, ◌-◌, ◌≤◌, ◌<◌, ap, arith}
 use Rattle.fused.specs.Deal.{step_room}
 use Rattle.table_sums.specs.Gain.{apart_there, room_there, run_fits, run_done, next_fits, next_small, next_turn, all_turns}
 use Rattle.table_sums.proofs.passes.+gain_from.Goals as goal
@@ -20,21 +20,29 @@ overflow_add-a t c =
 
 pub overflow_add-b : goal.overflow_add-b
 overflow_add-b t c =
-    let f = next_small c.requires c.if-k-t.false c.loop-c-test.true (ap (λ (x : ℕ). c.args.w + x) c.rank_step-in-loop-c.ensures) (ap (λ (x : ℕ). c.args.v + x) c.rank_step-in-loop-c-2.ensures) in
+    let few : c.loop-c.c < c.args.rem + 1 = omega (arith, c.loop-c-test.true) in
+    let f = next_small c.requires c.if-k-t.false few (ap (λ (x : ℕ). c.args.w + x) c.rank_step-in-loop-c.ensures) (ap (λ (x : ℕ). c.args.v + x) c.rank_step-in-loop-c-2.ensures) in
     omega (arith, f.1, c.well_formed)
 
 pub gain_from-requires : goal.gain_from-requires
 gain_from-requires t c =
     let g = c.requires in
-    let f = next_fits g c.if-k-t.false c.loop-c-test.true (ap (λ (x : ℕ). c.args.w + x) c.rank_step-in-loop-c.ensures) (ap (λ (x : ℕ). c.args.v + x) c.rank_step-in-loop-c-2.ensures) in
+    let few : c.loop-c.c < c.args.rem + 1 = omega (arith, c.loop-c-test.true) in
+    let f = next_fits g c.if-k-t.false few (ap (λ (x : ℕ). c.args.w + x) c.rank_step-in-loop-c.ensures) (ap (λ (x : ℕ). c.args.v + x) c.rank_step-in-loop-c-2.ensures) in
     (omega (arith, c.decreases, g.from, c.if-k-t.false), rw c.loop-c.invariant.1.long f)
 
 pub loop-c-preserved : goal.loop-c-preserved
 loop-c-preserved t c =
-    (omega arith, next_turn c.requires c.if-k-t.false c.loop-c-test.true (ap (λ (x : ℕ). c.args.w + x) c.rank_step-in-loop-c.ensures) (ap (λ (x : ℕ). c.args.v + x) c.rank_step-in-loop-c-2.ensures) c.loop-c.invariant.1 c.gain_from.ensures)
+    let few : c.loop-c.c < c.args.rem + 1 = omega (arith, c.loop-c-test.true) in
+    (omega arith, next_turn c.requires c.if-k-t.false few (ap (λ (x : ℕ). c.args.w + x) c.rank_step-in-loop-c.ensures) (ap (λ (x : ℕ). c.args.v + x) c.rank_step-in-loop-c-2.ensures) c.loop-c.invariant.1 c.gain_from.ensures)
 
 pub returns-then-k-t : goal.returns-then-k-t
 returns-then-k-t t c = run_done c.requires c.if-k-t.true c.choose-size.ensures (ap (λ (x : ℕ). c.args.v + x) c.rank_step.ensures) c.gain_run.ensures
 
-pub returns-after-loop-c : goal.returns-after-loop-c
-returns-after-loop-c t c = all_turns c.requires c.if-k-t.false (omega arith) c.loop-c.invariant.1
+pub returns-else-k-t : goal.returns-else-k-t
+returns-else-k-t t c = absurd (omega (arith, c.loop-c-test.false, c.loop-c.auto.c-end))
+
+pub returns-else-k-t-2 : goal.returns-else-k-t-2
+returns-else-k-t-2 t c =
+    let few : c.loop-c.c < c.args.rem + 1 = omega (arith, c.loop-c-test.true) in
+    all_turns c.requires c.if-k-t.false {c = c.loop-c.c + 1} (omega arith) (next_turn c.requires c.if-k-t.false few (ap (λ (x : ℕ). c.args.w + x) c.rank_step-in-loop-c.ensures) (ap (λ (x : ℕ). c.args.v + x) c.rank_step-in-loop-c-2.ensures) c.loop-c.invariant.1 c.gain_from.ensures)

@@ -6,17 +6,17 @@ use native.Mathlib.Omega.{arith}
 use lib.Ieee.{Float}
 use lib.ListN.{length}
 use Rattle.table_sums.specs.Passes.{folded_more, folded_skip, folded_all}
-use Rattle.table_sums.proofs.passes.fold_letters.Goals.{then-unseen-t-ne0, else-unseen-t-ne0}
+use Rattle.table_sums.proofs.passes.fold_letters.Goals.{then-count-ne0, else-count-ne0}
 use Rattle.table_sums.proofs.passes.fold_letters.Goals as goal
 
 pub loop-t-preserved : goal.loop-t-preserved
 loop-t-preserved c =
     let l = c.loop-t in
     let h : l.t < length c.args.unseen.now = c.loop-t-test.true in
-    let over : (ys : List Float) → c.if-unseen-t-ne0.xs ≡ ys → length ys ≡ length l.xs → length c.if-unseen-t-ne0.xs ≡ length c.args.xs.now = λ ys e k. ap length e ∙ k ∙ l.invariant.1 in
-    elim c.if-unseen-t-ne0.branch [
-      | then-unseen-t-ne0 w ↦ (omega arith, over _ w.xs-is w.gain_letter.ensures.long, λ g f. rw w.xs-is (folded_more f l.t h (l.invariant.2 g f) w.gain_letter.ensures))
-      | else-unseen-t-ne0 w ↦ (omega arith, over _ w.xs-is refl, λ g f. rw w.xs-is (folded_skip f l.t h w.if-unseen-t-ne0.false (l.invariant.2 g f)))
+    let over : (ys : List Float) → c.if-count-ne0.xs ≡ ys → length ys ≡ length l.xs → length c.if-count-ne0.xs ≡ length c.args.xs.now = λ ys e k. ap length e ∙ k ∙ l.invariant.1 in
+    elim c.if-count-ne0.branch [
+      | then-count-ne0 w ↦ (omega arith, over _ w.xs-is w.gain_letter.ensures.long, λ g f. rw w.xs-is (folded_more f l.t h (l.invariant.2 g f) (rw (← c.requires.letters) at w.gain_letter.ensures)))
+      | else-count-ne0 w ↦ (omega arith, over _ w.xs-is refl, λ g f. rw w.xs-is (folded_skip f l.t h w.if-count-ne0.false (l.invariant.2 g f)))
     ]
 
 pub returns : goal.returns

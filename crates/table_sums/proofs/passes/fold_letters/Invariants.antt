@@ -11,4 +11,4 @@ use Rattle.table_sums.proofs.passes.fold_letters.Given as goal
 
 abbrev pub invariant-loop-t : goal.invariant-loop-t
 invariant-loop-t l =
-    (l.t ≤ length l.unseen) × (length l.xs ≡ length l.initial.xs) × ((g : List ℕ → ℤ) → Folding l.unseen l.r g l.initial.xs → Partly (length l.unseen) l.r g (run true (length l.unseen) l.t) l.xs)
+    (l.t ≤ length l.unseen) × (length l.xs ≡ length l.initial.xs) × ((g : List ℕ → ℤ) → Folding l.unseen l.sizes.r g l.initial.xs → Partly (length l.unseen) l.sizes.r g (run true (length l.unseen) l.t) l.xs)

@@ -3,4 +3,4 @@ use Rattle.table_sums.specs.Passes.{Down}
 use Rattle.table_sums.proofs.passes.gain_letter.Given as goal
 
 abbrev pub invariant-loop-s : goal.invariant-loop-s
-invariant-loop-s l = Down l.n l.r l.t l.s l.initial.xs l.xs
+invariant-loop-s l = Down l.sizes.n l.sizes.r l.t l.s l.initial.xs l.xs

@@ -13,8 +13,5 @@ decreases-walk l = l.place.letters + l.place.letters + 1
 
 abbrev pub invariant-turns-loop-b : goal.invariant-turns-loop-b
 invariant-turns-loop-b l =
-    (l.count - get_or l.self.unseen.now l.l 0 ≤ l.b) × (l.b ≤ l.count → l.u ≡ less l.v l.self.drops.now l.s l.b)
-    × Raised l.initial.sheet (Turns l.self.letters.now l.self.drops.now l.self.unseen.now l.l l.place.tiles l.s l.left l.place.blanks l.place.real l.place.rank l.v l.b) l.sheet
-
-abbrev pub decreases-turns-loop-b : goal.decreases-turns-loop-b
-decreases-turns-loop-b l = l.most + 1 - l.b
+    (l.count - get_or l.self.unseen.now l.letter 0 ≤ l.b) × (l.b ≤ l.count → l.u ≡ less l.v l.self.drops.now l.s l.b)
+    × Raised l.initial.sheet (Turns l.self.letters.now l.self.drops.now l.self.unseen.now l.letter l.place.tiles l.s l.left l.place.blanks l.place.real l.place.rank l.v l.b) l.sheet

@@ -1,5 +1,5 @@
 -- The proof of the cycle of calls {aggregate}. The measure is the number of letters from t on. The loop's invariant: the totals are those
--- of the turns so far, and binom and idx are the binomial and the rank of as many tiles. Assumes nothing.
+-- of the turns so far, and binom and ridx are the binomial and the rank of as many tiles. Assumes nothing.
 use Rattle.std.proofs.Common.{◌≡◌, suc, ◌-◌, ◌≤◌, length, drop}
 use Rattle.draws.specs.Walk.{running, factor, climb, met_to, Gathered}
 use Rattle.draws.proofs.walk.Tables.+aggregate.Given as goal

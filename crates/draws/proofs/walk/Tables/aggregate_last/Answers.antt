@@ -7,7 +7,7 @@ use Rattle.draws.proofs.walk.Tables.aggregate_last.Goals as goal
 pub loop-u-init : goal.loop-u-init
 loop-u-init c =
     let a = c.args in
-    (c.requires.2.letters, tiles_none (length a.self.now.pool.now) a.self.now.add.now a.self.now.pool.now a.leave.w a.leave.ridx _)
+    (c.requires.1.letters, tiles_none (length a.self.now.pool.now) a.self.now.add.now a.self.now.pool.now a.leave.w a.leave.ridx _)
 
 pub loop-u-preserved : goal.loop-u-preserved
 loop-u-preserved c =

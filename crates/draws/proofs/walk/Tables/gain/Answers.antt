@@ -2,7 +2,7 @@
 use mathlib.Core.Path.{◌≡◌, ap, ap₂, ◌∙◌}
 use Prim.Native.Nat.{ℕ, max}
 use lib.IntN.{ℤ, nat_abs}
-use lib.Ieee.{binary64, add, mul}
+use lib.Ieee.{Float, binary64, add, mul}
 use mir.Syntax.{w32}
 use mir.Val.{SFits, to_z, of_z}
 use mir.ValLaws.{to_z-of_z}
@@ -22,5 +22,5 @@ returns c =
     let fits : SFits w32 x = search rules in
     let back : to_z w32 (of_z w32 x) ≡ x = to_z-of_z w32 x fits in
     gathered_one (a.rack.w, a.rack.ridx)
-    (ap₂ (λ (z : ℤ) (k : ℕ). totals (add binary64 a.sums.num (mul binary64 a.rack.w (whole z))) (add binary64 a.sums.den a.rack.w) k) back (c.larger.ensures ∙ ap (λ (z : ℤ). max a.sums.most (nat_abs z)) back))
+    (ap₂ (λ (f : Float) (k : ℕ). totals (add binary64 a.sums.num (mul binary64 a.rack.w f)) (add binary64 a.sums.den a.rack.w) k) (c.from.ensures ∙ ap whole back) (c.larger.ensures ∙ ap (λ (z : ℤ). max a.sums.most (nat_abs z)) back))
     fits.sfits

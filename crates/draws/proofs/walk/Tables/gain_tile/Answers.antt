@@ -14,10 +14,10 @@ returns-then-count-eq0 c =
     tile_none (length a.self.now.pool.now) a.self.now.add.now a.u a.leave.w a.leave.ridx _ (sym c.held-count.ensures.same ∙ c.if-count-eq0.true)
 
 pub raised-requires : goal.raised-requires
-raised-requires c = tile_place c.requires.walk.2 c.requires.letter
+raised-requires c = tile_place c.requires.walk.1 c.requires.letter
 
 pub gain-requires : goal.gain-requires
-gain-requires c = omega (arith, tile_best c.requires.walk.2 c.requires.letter, c.raised.ensures)
+gain-requires c = omega (arith, tile_best c.requires.walk.1 c.requires.letter, c.raised.ensures)
 
 pub returns : goal.returns
 returns c =

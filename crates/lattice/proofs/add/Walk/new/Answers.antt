@@ -9,9 +9,9 @@ use Rattle.lattice.proofs.add.Walk.new.Goals as goal
 
 pub invariant_of-result : goal.invariant_of-result
 invariant_of-result c =
-    let n = c.args.n in
-    let r = c.args.r in
-    let sizes = facts n r c.requires in
+    let n = c.args.sizes.n in
+    let r = c.args.sizes.r in
+    let sizes = facts n r c.args.sizes.is_served in
     let zeros = sym (take_zeros n 64 sizes.letters) in
     record {
       sizes = sizes;

@@ -1,5 +1,5 @@
 -- By the refusal of the bests, and by the weight.
-use Rattle.std.proofs.Common.{◌^◌, ◌≤◌, ◌∙◌, refl, arith}
+use Rattle.std.proofs.Common.{◌^◌, ◌≤◌, refl, arith}
 use Rattle.std.proofs.lemmas.Result.{err_from_is_err_and}
 use Rattle.refusal.specs.Refusal.{code_some, accepted_is}
 use Rattle.listing.specs.Listing.{weight}

@@ -33,17 +33,17 @@ module _ (c : goal.In-loop-t) where
 step_is : (c : goal.After-rank_step) → c.rank_step.result ≡ step_at c.args.tally.now c.loop-t.t c.args.s (get_or c.args.tally.now c.loop-t.t 0 + 1)
 step_is c =
     let d = (goal.at.After-rank_step c).In-loop-t in
-    c.rank_step.ensures ∙ step_read c.args.s c.args.tally.now c.loop-t.t (after_is d) (left_is d) (ap (λ (x : ℕ). x + 1) c.wide-own.ensures)
+    c.rank_step.ensures ∙ step_read c.args.s c.args.tally.now c.loop-t.t (after_is d) (left_is d) (ap (λ (x : ℕ). x + 1) c.from-own.ensures)
 
 step2_is : (c : goal.After-rank_step-in-loop-t) → c.rank_step-in-loop-t.result ≡ step_at c.args.tally.now c.loop-t.t c.args.s (get_or c.args.tally.now c.loop-t.t 0 + c.args.s)
 step2_is c =
     let d = (goal.at.After-rank_step-in-loop-t c).In-loop-t in
-    c.rank_step-in-loop-t.ensures ∙ step_read c.args.s c.args.tally.now c.loop-t.t (after_is d) (left_is d) (ap (λ (x : ℕ). x + c.args.s) c.wide-own.ensures)
+    c.rank_step-in-loop-t.ensures ∙ step_read c.args.s c.args.tally.now c.loop-t.t (after_is d) (left_is d) (ap (λ (x : ℕ). x + c.args.s) c.from-own.ensures)
 
 step3_is : (c : goal.After-rank_step-none) → c.rank_step-none.result ≡ step_at c.args.tally.now c.loop-t.t c.args.s (get_or c.args.tally.now c.loop-t.t 0)
 step3_is c =
     let d = (goal.at.After-rank_step-none c).In-loop-t in
-    c.rank_step-none.ensures ∙ step_read c.args.s c.args.tally.now c.loop-t.t (after_is d) (left_is d) c.wide-own.ensures
+    c.rank_step-none.ensures ∙ step_read c.args.s c.args.tally.now c.loop-t.t (after_is d) (left_is d) c.from-own.ensures
 
 -- the rack's gain with one of the letter kept, and with all that are left
 once_is : (c : goal.After-rank_step) → c.loop-t.none + c.rank_step.result ≡ offset c.args.s 1 c.args.tally.now c.loop-t.t
@@ -63,7 +63,7 @@ overflow_add-left c =
 pub rank_step-requires : goal.rank_step-requires
 rank_step-requires c =
     let d = (goal.at.rank_step-requires c).In-loop-t in
-    record { letters = omega (arith, c.requires.letters); tiles = omega (arith, left_is d, rest_fits d); inside = omega (arith, left_is d, own_fits d, c.wide-own.ensures, c.requires.some) }
+    record { letters = omega (arith, c.requires.letters); tiles = omega (arith, left_is d, rest_fits d); inside = omega (arith, left_is d, own_fits d, c.from-own.ensures, c.requires.some) }
 
 pub overflow_add-once : goal.overflow_add-once
 overflow_add-once c =
@@ -72,7 +72,7 @@ overflow_add-once c =
 pub rank_step-requires-in-loop-t : goal.rank_step-requires-in-loop-t
 rank_step-requires-in-loop-t c =
     let d = (goal.at.rank_step-requires-in-loop-t c).In-loop-t in
-    record { letters = omega (arith, c.requires.letters); tiles = omega (arith, left_is d, rest_fits d); inside = omega (arith, left_is d, own_fits d, c.wide-own.ensures) }
+    record { letters = omega (arith, c.requires.letters); tiles = omega (arith, left_is d, rest_fits d); inside = omega (arith, left_is d, own_fits d, c.from-own.ensures) }
 
 pub overflow_add-whole : goal.overflow_add-whole
 overflow_add-whole c =
@@ -85,7 +85,7 @@ overflow_add-whole-in-loop-t-2 c =
 pub rank_step-none-requires : goal.rank_step-none-requires
 rank_step-none-requires c =
     let d = (goal.at.rank_step-none-requires c).In-loop-t in
-    record { letters = omega (arith, c.requires.letters); tiles = omega (arith, left_is d, rest_fits d); inside = omega (arith, left_is d, own_fits d, c.wide-own.ensures) }
+    record { letters = omega (arith, c.requires.letters); tiles = omega (arith, left_is d, rest_fits d); inside = omega (arith, left_is d, own_fits d, c.from-own.ensures) }
 
 pub overflow_add-none : goal.overflow_add-none
 overflow_add-none c =

@@ -3,7 +3,7 @@ use Rattle.std.proofs.Common.{◌≡◌, ℕ, suc, ◌+◌, ◌-◌, ◌*◌, �
 use native.Mathlib.Nat.{sub-zero}
 use Rattle.lattice.specs.Tally.{total, within}
 use Rattle.scatter.specs.Plan.{Summed, summed_start, summed_next, summed_all, rest_next, tail_next, room_next, tail_fits, total_drop_le}
-use Rattle.scatter.proofs.plan.Plan.sum.Goals.{After-rank_step-tail, After-wide-own, After-wide-room, In-loop-i}
+use Rattle.scatter.proofs.plan.Plan.sum.Goals.{After-rank_step-tail, After-from-own, After-from-room, In-loop-i}
 use Rattle.scatter.proofs.plan.Plan.sum.Goals as goal
 
 -- what is known in a turn
@@ -20,31 +20,31 @@ module _ (c : goal.In-loop-i) where
   here : Summed c.args.tally.now c.args.caps.now (at + 1) c.loop-i.rest c.loop-i.tail c.loop-i.room c.loop-i.self.rest c.loop-i.self.tail c.loop-i.self.room
   here = rw letter_is at c.loop-i.invariant.1
 
-rest_is : (c : goal.After-wide-own) → c.loop-i.rest + c.wide-own.result ≡ total (drop (at (goal.at.After-wide-own c).In-loop-i) c.args.tally.now)
+rest_is : (c : goal.After-from-own) → c.loop-i.rest + c.from-own.result ≡ total (drop (at (goal.at.After-from-own c).In-loop-i) c.args.tally.now)
 rest_is c =
     let p = c.requires in
-    ap (λ (x : ℕ). c.loop-i.rest + x) c.wide-own.ensures ∙ rest_next _ _ p.letters p.same (at (goal.at.After-wide-own c).In-loop-i) (here (goal.at.After-wide-own c).In-loop-i)
+    ap (λ (x : ℕ). c.loop-i.rest + x) c.from-own.ensures ∙ rest_next _ _ p.letters p.same (at (goal.at.After-from-own c).In-loop-i) (here (goal.at.After-from-own c).In-loop-i)
 
-rest_fits : (c : goal.After-wide-own) → total (drop (at (goal.at.After-wide-own c).In-loop-i) c.args.tally.now) ≤ 15
+rest_fits : (c : goal.After-from-own) → total (drop (at (goal.at.After-from-own c).In-loop-i) c.args.tally.now) ≤ 15
 rest_fits c =
-    omega (arith, total_drop_le c.args.tally.now (at (goal.at.After-wide-own c).In-loop-i), c.requires.tiles)
+    omega (arith, total_drop_le c.args.tally.now (at (goal.at.After-from-own c).In-loop-i), c.requires.tiles)
 
 tail_is : (c : goal.After-rank_step-tail) → c.loop-i.tail + c.rank_step-tail.result ≡ within (drop (at (goal.at.After-rank_step-tail c).In-loop-i) c.args.tally.now)
 tail_is c =
     let p = c.requires in
-    ap (λ (x : ℕ). c.loop-i.tail + x) c.rank_step-tail.ensures ∙ tail_next _ _ p.letters p.same (at (goal.at.After-rank_step-tail c).In-loop-i) (here (goal.at.After-rank_step-tail c).In-loop-i) (after_is (goal.at.After-rank_step-tail c).In-loop-i) (rest_is (goal.at.After-rank_step-tail c).After-wide-own) c.wide-own.ensures
+    ap (λ (x : ℕ). c.loop-i.tail + x) c.rank_step-tail.ensures ∙ tail_next _ _ p.letters p.same (at (goal.at.After-rank_step-tail c).In-loop-i) (here (goal.at.After-rank_step-tail c).In-loop-i) (after_is (goal.at.After-rank_step-tail c).In-loop-i) (rest_is (goal.at.After-rank_step-tail c).After-from-own) c.from-own.ensures
 
-room_is : (c : goal.After-wide-room) → c.loop-i.room + c.wide-room.result ≡ total (drop (at (goal.at.After-wide-room c).In-loop-i) c.args.caps.now)
+room_is : (c : goal.After-from-room) → c.loop-i.room + c.from-room.result ≡ total (drop (at (goal.at.After-from-room c).In-loop-i) c.args.caps.now)
 room_is c =
     let p = c.requires in
-    ap (λ (x : ℕ). c.loop-i.room + x) c.wide-room.ensures ∙ room_next _ _ p.letters p.same (at (goal.at.After-wide-room c).In-loop-i) (here (goal.at.After-wide-room c).In-loop-i)
+    ap (λ (x : ℕ). c.loop-i.room + x) c.from-room.ensures ∙ room_next _ _ p.letters p.same (at (goal.at.After-from-room c).In-loop-i) (here (goal.at.After-from-room c).In-loop-i)
 
-room_fits : (c : goal.After-wide-room) → c.loop-i.room + c.wide-room.result ≤ 255 * (length c.args.tally.now - at (goal.at.After-wide-room c).In-loop-i)
+room_fits : (c : goal.After-from-room) → c.loop-i.room + c.from-room.result ≤ 255 * (length c.args.tally.now - at (goal.at.After-from-room c).In-loop-i)
 room_fits c =
     let l = c.loop-i-test.true in
-    let f = (here (goal.at.After-wide-room c).In-loop-i).room_fits in
-    let e = c.wide-room.ensures in
-    omega (arith, c.type_inv.caps (at (goal.at.After-wide-room c).In-loop-i))
+    let f = (here (goal.at.After-from-room c).In-loop-i).room_fits in
+    let e = c.from-room.ensures in
+    omega (arith, c.type_inv.caps (at (goal.at.After-from-room c).In-loop-i))
 
 pub loop-i-init : goal.loop-i-init
 loop-i-init c =
@@ -67,7 +67,7 @@ loop-i-preserved c =
     let p = c.requires in
     let l = c.loop-i-test.true in
     let e : length c.args.tally.now - (c.loop-i.i + 1) ≡ at (goal.at.loop-i-preserved c).In-loop-i = omega arith in
-    (omega arith, rw e (summed_next _ _ p.letters p.same (at (goal.at.loop-i-preserved c).In-loop-i) (here (goal.at.loop-i-preserved c).In-loop-i) (rest_is (goal.at.loop-i-preserved c).After-wide-own) (tail_is (goal.at.loop-i-preserved c).After-rank_step-tail) (room_is (goal.at.loop-i-preserved c).After-wide-room) (room_fits (goal.at.loop-i-preserved c).After-wide-room)))
+    (omega arith, rw e (summed_next _ _ p.letters p.same (at (goal.at.loop-i-preserved c).In-loop-i) (here (goal.at.loop-i-preserved c).In-loop-i) (rest_is (goal.at.loop-i-preserved c).After-from-own) (tail_is (goal.at.loop-i-preserved c).After-rank_step-tail) (room_is (goal.at.loop-i-preserved c).After-from-room) (room_fits (goal.at.loop-i-preserved c).After-from-room)))
 
 pub returns : goal.returns
 returns c =

@@ -3,7 +3,7 @@ use Rattle.std.proofs.Common.{◌≡◌, ℕ, suc, ◌+◌, ◌-◌, ◌%◌, �
 use Rattle.lattice.specs.Step.{step}
 use Rattle.maxima.specs.Maxima.{raise}
 use Rattle.scatter.specs.Last.{so_far_start, so_far_end, so_far_none, so_far_one, whole_leave, whole_best, whole_lands}
-use Rattle.scatter.specs.Offsets.{taken_none, offset_whole}
+use Rattle.scatter.specs.Offsets.{taken_none, offset_whole, less_wrapped}
 use Rattle.scatter.specs.Plan.{none_fits}
 use Rattle.scatter.specs.Walk.{tiles_left}
 use Rattle.scatter.proofs.play.Play.last_one.Goals.{In-loop-u, then-self-u-gt0, else-self-u-gt0}
@@ -50,7 +50,7 @@ module _ (c : goal.In-loop-u) where
 
   rack_is : ((c.args.r + (2 ^ 64 - get_or c.args.self.now.plan.now.one.none c.args.t 0)) % 2 ^ 64 + get_or c.args.self.now.plan.now.one.whole at 0) % 2 ^ 64 ≡ rack_rank
   rack_is =
-      whole_lands c.loop-u.invariant below best_fits c.ranges.r.fits low none_is refl ((c.args.self.now.planned.ones (omega (arith, c.requires.left))).whole at below)
+      whole_lands c.loop-u.invariant below best_fits _ (less_wrapped _ _ c.ranges.r.fits (omega (arith, none_is, low))) none_is refl ((c.args.self.now.planned.ones (omega (arith, c.requires.left))).whole at below)
 
 pub overflow_add-kept : goal.overflow_add-kept
 overflow_add-kept c =

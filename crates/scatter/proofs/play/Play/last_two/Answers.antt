@@ -4,7 +4,7 @@ use Rattle.lattice.specs.Step.{step}
 use Rattle.maxima.specs.Maxima.{raise}
 use Rattle.scatter.specs.Raise.{raise_all, length_raise_all}
 use Rattle.scatter.specs.Last.{so_far_start, so_far_end, so_far_none, so_far_two, so_far_two_one, ready_once, whole_leave, whole_best, whole_lands, with_lands, with_room}
-use Rattle.scatter.specs.Offsets.{taken_none, offset, offset_whole, offers_at}
+use Rattle.scatter.specs.Offsets.{taken_none, offset, offset_whole, offers_at, less_wrapped}
 use Rattle.scatter.specs.Plan.{none_fits}
 use Rattle.scatter.specs.Walk.{tiles_left}
 use Rattle.scatter.proofs.play.Play.last_two.Goals.{In-loop-u, then-self-u-gt0+then-self-u-gt1, then-self-u-gt0+else-self-u-gt1, else-self-u-gt0}
@@ -67,11 +67,11 @@ module _ (c : goal.In-loop-u) where
 
   rest_is : (base + get_or c.args.self.now.plan.now.two.once at 0) % 2 ^ 64 ≡ rest_rank
   rest_is =
-      with_lands c.loop-u.invariant below best_fits c.ranges.r.fits low none_is refl 1 (omega arith) ((c.args.self.now.planned.twos (omega (arith, c.requires.left))).once at below)
+      with_lands c.loop-u.invariant below best_fits base (less_wrapped _ _ c.ranges.r.fits (omega (arith, none_is, low))) none_is refl 1 (omega arith) ((c.args.self.now.planned.twos (omega (arith, c.requires.left))).once at below)
 
   rack_is : (base + get_or c.args.self.now.plan.now.two.whole at 0) % 2 ^ 64 ≡ rack_rank
   rack_is =
-      whole_lands c.loop-u.invariant below best_fits c.ranges.r.fits low none_is refl ((c.args.self.now.planned.twos (omega (arith, c.requires.left))).whole at below)
+      whole_lands c.loop-u.invariant below best_fits base (less_wrapped _ _ c.ranges.r.fits (omega (arith, none_is, low))) none_is refl ((c.args.self.now.planned.twos (omega (arith, c.requires.left))).whole at below)
 
   -- what the last tile's offers make of the table
   raised : {once : ℕ} {best : List ℤ} → once ≡ once_rank

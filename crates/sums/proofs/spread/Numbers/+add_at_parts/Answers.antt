@@ -1,5 +1,5 @@
 -- the measure is the number of letters left; the turns so far are done, in both tables
-use Rattle.std.proofs.Common.{ℕ, ◌+◌, refl, ap, arith}
+use Rattle.std.proofs.Common.{ℕ, ◌+◌, ◌<◌, refl, ap, arith}
 use Rattle.runs.specs.Runs.{Absent, none_present}
 use Rattle.sums.specs.Spread.{Ready}
 use Rattle.sums.proofs.Spreading.{turned_none, turned_more, ready_rank, room, ready_next, fits_next, walk_turn, walk_done, walk_whole, skip_up, skip_down}
@@ -37,39 +37,34 @@ pub add_part-requires-in-None-clause-racks : goal.add_part-requires-in-None-clau
 add_part-requires-in-None-clause-racks t c =
     omega (arith, ready_rank (last_rack t (goal.at.add_part-requires-in-None-clause-racks t c).In-None) refl, c.size_start-in-None.ensures)
 
-pub overflow_add-c-end : goal.overflow_add-c-end
-overflow_add-c-end t c =
-    let run = c.in-Some.ensures in
-    omega (arith, (room (part t (goal.at.overflow_add-c-end t c).In-Some) run.some run.counted {x = c.in-Some.last.count} (omega arith)).0)
-
 pub loop-c-init : goal.loop-c-init
 loop-c-init t c = (omega arith, turned_none _ _ _, turned_none _ _ _)
 
 pub with-p-requires-clause-tiles : goal.with-p-requires-clause-tiles
 with-p-requires-clause-tiles t c =
     let run = c.in-Some.ensures in
-    (room (part t (goal.at.with-p-requires-clause-tiles t c).In-Some) run.some run.counted c.loop-c-test.true).0
+    (room (part t (goal.at.with-p-requires-clause-tiles t c).In-Some) run.some run.counted {x = c.loop-c.c} (omega arith)).0
 
 pub with-p-requires-clause-fits : goal.with-p-requires-clause-fits
 with-p-requires-clause-fits t c =
     let run = c.in-Some.ensures in
-    fits_next (part t (goal.at.with-p-requires-clause-fits t c).In-Some) run.some run.counted c.loop-c-test.true
+    fits_next (part t (goal.at.with-p-requires-clause-fits t c).In-Some) run.some run.counted {x = c.loop-c.c} (omega arith)
 
 pub with-q-requires-clause-tiles : goal.with-q-requires-clause-tiles
 with-q-requires-clause-tiles t c =
     let run = c.in-Some.ensures in
-    (room (rack t (goal.at.with-q-requires-clause-tiles t c).In-Some) run.some run.counted c.loop-c-test.true).0
+    (room (rack t (goal.at.with-q-requires-clause-tiles t c).In-Some) run.some run.counted {x = c.loop-c.c} (omega arith)).0
 
 pub with-q-requires-clause-fits : goal.with-q-requires-clause-fits
 with-q-requires-clause-fits t c =
     let run = c.in-Some.ensures in
-    fits_next (rack t (goal.at.with-q-requires-clause-fits t c).In-Some) run.some run.counted c.loop-c-test.true
+    fits_next (rack t (goal.at.with-q-requires-clause-fits t c).In-Some) run.some run.counted {x = c.loop-c.c} (omega arith)
 
 pub add_at_parts-requires : goal.add_at_parts-requires
 add_at_parts-requires t c =
     let run = c.in-Some.ensures in
     let d = (goal.at.add_at_parts-requires t c).In-Some in
-    let taken = c.loop-c-test.true in (
+    let taken : c.loop-c.c < c.in-Some.last.count + 1 = omega arith in (
       omega (arith, c.decreases, run.inside, run.before, run.some),
       (
         rw (run.same, run.before, c.with-p.ensures.tiles) (ready_next (part t d) run.some run.counted taken c.with-p.ensures.before),
@@ -96,12 +91,20 @@ returns-in-None t c =
       den = skip_up _ _ _ _ _ _ _ _ _ (omega arith) letters absent (walk_whole _ _ _ _ _ _ _ _ _ e f c.add_part-in-None.ensures);
     }
 
-pub returns-after-loop-c : goal.returns-after-loop-c
-returns-after-loop-c t c =
+pub returns-in-Some : goal.returns-in-Some
+returns-in-Some t c = absurd (omega arith)
+
+pub returns-in-Some-2 : goal.returns-in-Some-2
+returns-in-Some-2 t c =
     let run = c.in-Some.ensures in
     let letters = c.requires.part.letters in
-    let l = rw run.before at c.loop-c.invariant in
+    let l = c.loop-c.invariant in
+    let v = rw (run.same, c.with-p.ensures.tiles, c.with-q.ensures.tiles) at c.add_at_parts.ensures in
+    let e = c.with-p.ensures.before in
+    let f = c.with-q.ensures.before in
+    let num = rw run.before at (turned_more l.1 (walk_turn _ _ _ _ _ _ _ _ _ _ _ _ e f v.num)) in
+    let den = rw run.before at (turned_more l.2 (walk_turn _ _ _ _ _ _ _ _ _ _ _ _ e f v.den)) in
     record {
-      num = skip_up _ _ _ _ _ _ _ _ _ run.inside letters run.absent (walk_done _ _ _ _ _ _ _ _ run.some run.counted l.1 (omega arith));
-      den = skip_up _ _ _ _ _ _ _ _ _ run.inside letters run.absent (walk_done _ _ _ _ _ _ _ _ run.some run.counted l.2 (omega arith));
+      num = skip_up _ _ _ _ _ _ _ _ _ run.inside letters run.absent (walk_done _ _ _ _ _ _ _ _ run.some run.counted num (omega arith));
+      den = skip_up _ _ _ _ _ _ _ _ _ run.inside letters run.absent (walk_done _ _ _ _ _ _ _ _ run.some run.counted den (omega arith));
     }

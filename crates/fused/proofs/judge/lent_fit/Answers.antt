@@ -1,5 +1,0 @@
-use Rattle.fused.proofs.Judges.{leaves_fit}
-use Rattle.fused.proofs.judge.lent_fit.Goals as goal
-
-pub overflow_sub-sizes : goal.overflow_sub-sizes
-overflow_sub-sizes c = leaves_fit c.args.sizes
