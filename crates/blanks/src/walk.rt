@@ -20,6 +20,7 @@ use runs::{Runs, next_run};
 /// The word of letters with one more tile of the letter that has p letters after it: its bit is
 /// added where it had no tile.
 // Added (N): `|` would ask of the word that it has the bits of the letters with tiles, no others.
+#[tactic(auto, using(runs::specs::Runs::mark_none, runs::specs::Runs::mark_some))]
 fn with_letter(word: u64, count: u8, p: usize) -> u64
     requires bit { p < 64 }
     requires fits { word + (1 - mark count) * 2 ^ p < 2 ^ 64 }
@@ -150,6 +151,7 @@ fn tails_of(
 /// each letter from 1 on are placed, and how many blanks there may be. `heads` and `tails` are made
 /// of them: where the plays of each number of blanks begin, and what the first tiles add to the
 /// rank where all of them are real. More than `free` tiles are not all real.
+// Letters beside drops (N): the walk reads the drops alone, the facts below speak of both.
 #[derive(Clone, Copy)]
 struct Placed<'a> {
     letters: &'a [u8],
@@ -170,6 +172,8 @@ struct Placed<'a> {
 // How many blanks are left goes beside it (N): each turn tests that, and a play's head is read by
 // those it has; neither is then made of the other. The word of these letters, too (N): as Runs it
 // would bring the tally a second time, and each contract would say of both that they are the same.
+// The score so far as well (N): it is what a play writes, and no rank or number of tiles is made of
+// it.
 #[derive(Clone, Copy)]
 struct Place {
     letters: usize,
@@ -344,6 +348,7 @@ impl<'a> Placed<'a> {
 }
 
 /// The walk over all tiles, which are in order, over a slice of zeros for the letters from 1 on.
+// Slices one by one (C): they are those of the call, lent, and the sheet is written through.
 pub fn raise_all(
     sheet: &mut [i32],
     score: i32,

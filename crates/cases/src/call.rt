@@ -1,3 +1,4 @@
+//! The numbers of the records of a list, and what each is of.
 ghost use Rattle.std.specs.Prelude.{◌≤◌, ◌↔◌, IsTrue};
 ghost use Rattle.cases.specs.Call.{Decodes};
 

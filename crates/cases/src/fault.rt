@@ -1,3 +1,4 @@
+//! Why a record is not read on.
 ghost use Rattle.std.specs.Prelude.{◌≡◌};
 ghost use Rattle.cases.specs.declared.fault.Fault.TheVariants.{OutOfMemory};
 

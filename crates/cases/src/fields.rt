@@ -1,3 +1,4 @@
+//! The numbers of a record, taken one after the other and compared.
 ghost use Rattle.std.specs.Prelude.{◌≡◌, ℕ, ◌≤◌, ◌↔◌, [], ◌∷◌, ◌++◌, Some, length, vec_len, take};
 ghost use Rattle.std.specs.Prelude.{drop, IsTrue, IsOk, IfOk, OnErr};
 ghost use Rattle.cases.specs.Listed.{AreNumbersOf};

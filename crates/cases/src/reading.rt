@@ -1,3 +1,4 @@
+//! The records of a list, read a word at a time.
 ghost use Rattle.std.specs.Prelude.{◌≡◌, ◌≢◌, [], ◌∷◌, ◌↔◌, None, Some, IsTrue, IsOk, IfOk, IsSome};
 ghost use Rattle.std.specs.Prelude.{IfSome, OnErr, Contains};
 ghost use Rattle.std.specs.Str.Parse.{digits_value};

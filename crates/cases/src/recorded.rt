@@ -1,3 +1,4 @@
+//! The values that a list gives as numbers.
 ghost use Rattle.std.specs.Prelude.{◌≡◌, ℕ, ◌%◌, ◌^◌, ◌<◌, ◌≤◌, ◌↔◌, ⊤, Some, None, Option, is_nan};
 ghost use Rattle.std.specs.Prelude.{to_bits, IsTrue, IsSome, IfSome, FitsSigned, if◌then◌else◌};
 ghost use Rattle.std.specs.Float.{binary64};

@@ -11,9 +11,7 @@ use crate::ranks::NONE;
 use lattice::Lattice;
 use refusal::{Refusal, number};
 use search::Kept;
-use search::calls::{
-    self, Kind, best_equity_of, best_equity_table, best_keep_of, naive_best_equity,
-};
+use search::calls::{self, best_equity_of, best_equity_table, best_keep_of, naive_best_equity};
 use whole::UNPLAYABLE;
 
 /// A best or a mean with the number of its refusal: UNPLAYABLE where refused, and where there is no
@@ -88,11 +86,8 @@ impl From<Result<calls::Play, Refusal>> for Play {
         match answer {
             Ok(play) => Play {
                 number: 0,
-                // A number (C): an enum does not cross; a list of cases has the same (trials).
-                kind: match play.kind {
-                    Kind::Word => 1,
-                    Kind::Exchange => 2,
-                },
+                // A number (C): an enum does not cross.
+                kind: u8::from(play.kind),
                 value: play.best,
             },
             Err(refusal) => Play {

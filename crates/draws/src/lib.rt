@@ -1,9 +1,8 @@
 //! Draws: the mean best of the racks that a kept leave and tiles drawn from a pool make.
 #![tactic(auto)]
 
-ghost use Rattle.std.specs.Prelude.{IfOk, OnOk, IfErr};
+ghost use Rattle.std.specs.Prelude.{◌↔◌, IsTrue, IfOk, OnOk, IfErr};
 ghost use Rattle.refusal.specs.Refusal.{code_of};
-ghost use Rattle.lattice.specs.AddRows.{Decides};
 ghost use Rattle.draws.specs.Draws.{Fills, DrawNumber, Valued};
 ghost use Rattle.draws.specs.Given.{Given};
 
@@ -18,8 +17,9 @@ use whole::cut;
 mod walk;
 
 /// Whether the multiset at a rank makes a full rack with so many tiles more.
+#[tactic(auto, using(lattice::specs::Served::facts))]
 fn fills(sizes: Sizes, s_ridx: usize, draw: usize) -> bool
-    ensures { Decides result (Fills sizes.n sizes.r s_ridx draw) }
+    ensures { IsTrue result ↔ Fills sizes.n sizes.r s_ridx draw }
 {
     if sizes.r < draw {
         return false;

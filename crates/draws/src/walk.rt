@@ -80,6 +80,7 @@ impl Tables<'_> {
     /// One rack more where the pool has letter u: the leave with one tile more, met in its ways
     /// for each of the letter's tiles.
     #[inline]
+    #[tactic(auto, using(crate::specs::Walking::tile_place, crate::specs::Walking::tile_best))]
     fn gain_tile(&self, u: usize, leave: Drawn, sums: Totals) -> Totals
         requires walk { (left : ℕ) × Walking self.now.sizes.r self.now.add.now self.now.full_v.now
             self.now.pool.now u 1 left leave.ridx }

@@ -23,6 +23,18 @@ pub struct Extended {
     pub first: usize,
 }
 
+impl Extended {
+    /// How many racks extend the leave: one for each of n letters from its last one on.
+    #[inline]
+    pub fn racks(self, n: usize) -> usize
+        requires inside { self.stop ≤ n }
+        requires letters { n ≤ 64 }
+        ensures { result ≡ suc (n - self.stop) }
+    {
+        n - self.stop + 1
+    }
+}
+
 // The letters up to the last one that a tally has, and at least one.
 fn stop_of(tally: &[u8]) -> usize
     requires { 0 < length tally.now }
@@ -87,6 +99,6 @@ pub fn next_leave(e: Extended, tally: &mut [u8]) -> Extended
     Extended {
         word,
         stop: next_run(tally, word, n).stop,
-        first: e.first + (n - e.stop) + 1,
+        first: e.first + e.racks(n),
     }
 }

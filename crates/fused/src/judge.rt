@@ -99,6 +99,7 @@ fn cleared(written: &Written) -> bool
 }
 
 /// Judges what a call is given, in the order of the refusals, and gives the tables of ranks.
+// add and by_letter stand alone up to here (N): `Ranks` says of them what is judged first.
 pub fn judge<'a>(
     sizes: Sizes,
     add: &'a [u32],

@@ -112,7 +112,7 @@ impl<'a> Racks<'a> {
             ≡ leave_added (length tally.now) self.now.ranks.sizes.leaves self.now.ways.now
             (ways_at self.now.ranks.sizes.leaves self.now.ways.now) tally.now den.old }
     {
-        let k = tally.len() - e.stop + 2;
+        let k = e.racks(tally.len()) + 1;
         self.spread_leave(e, tally, &mut values[..k], &mut counts[..k], num, den);
     }
 
@@ -135,7 +135,7 @@ impl<'a> Racks<'a> {
         let mut e = extend_at(sizes.r, from, tally);
         // The walk over the leaves is written out, as in Drawable::best_racks (N): it is these
         // three calls, and a walk with its step as a closure would be handed as much.
-        for _ in 0..sizes.leaves - from {
+        for _ in from..sizes.leaves {
             self.spread_at(e, tally, &mut values, &mut counts, num, den);
             e = next_leave(e, tally);
         }

@@ -24,6 +24,8 @@ pub struct Ranks<'a> {
 }
 
 /// Whether tables of so many entries have the lengths that the lattice's have.
+// No entries, not an Option (C): the C interface hands an empty slice where there is no letter
+// table, and `judge` makes the Option of it.
 pub fn have_lengths(sizes: Sizes, add: usize, by_letter: usize) -> bool
     ensures { IsTrue result ↔ TableLengths sizes.n sizes.r add by_letter }
 {

@@ -31,6 +31,16 @@ impl Board<'_> {
     ghost use Rattle.listing.specs.Listing.{Census};
     ghost use Rattle.listing.specs.Board.{board_lent};
 
+    fn lattice(self) -> Lattice
+        ensures n { result.n ≡ self.entry.n }
+        ensures r { result.r ≡ self.entry.r }
+    {
+        Lattice {
+            n: self.n,
+            r: self.r,
+        }
+    }
+
     /// Fills num and den, which are +0.0, with the sums and counts of the leaves; and best with the
     /// best of each full rack.
     // (C): the three tables stay slices, lent by the caller: the listing takes no heap.
@@ -43,26 +53,18 @@ impl Board<'_> {
         ensures { Census (board_lent self.entry) best.old num.old den.old result
             best.new num.new den.new }
     {
-        let lattice = Lattice {
-            n: self.n,
-            r: self.r,
-        };
-        best_equity_table(lattice, self.sheet, self.leave, best)?;
+        best_equity_table(self.lattice(), self.sheet, self.leave, best)?;
         if !within_weight(self.pool, self.r, largest(self.sheet), largest(self.leave)) {
             return Err(Refusal::Weight);
         }
-        apportion_table(lattice, best, self.pool, num, den)
+        apportion_table(self.lattice(), best, self.pool, num, den)
     }
 
     /// How many leaves there are.
     pub fn leaves(self) -> u32
         ensures { result ≡ start self.entry.n self.entry.r }
     {
-        let lattice = Lattice {
-            n: self.n,
-            r: self.r,
-        };
-        lattice.full_rack_start().unwrap()
+        self.lattice().full_rack_start().unwrap()
     }
 }
 
@@ -71,6 +73,7 @@ impl Board<'_> {
 pub const CELLS: usize = 512;
 
 /// The length of a lattice that the listing serves, which is at most 512.
+#[tactic(auto, using(crate::proofs::Cells::cells_refused, crate::proofs::Cells::cells_letters))]
 pub fn cells(n: usize, r: usize) -> Result<usize, Refusal>
     ensures ok { IfOk result (λ cells. (cells ≡ cells_of n r) × (0 < cells) × (cells ≤ 512)) }
     ensures letters { OnOk result (n ≤ 64) }

@@ -10,6 +10,7 @@ use runs::next_run;
 
 // The word of the next tally, from that of the letters up to the one that gets a tile: this one is
 // then there, and of those after it only the last can be, which gets all but one of count tiles.
+#[tactic(auto, using(runs::specs::Runs::mark_some, runs::specs::Runs::mark_none))]
 fn next_word(rest: u64, after: usize, count: u8) -> u64
     requires after { after < 64 }
     requires fits { (rest / 2 * 2 + 1) * 2 ^ after + mark (count - 1) < 2 ^ 64 }

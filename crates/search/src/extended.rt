@@ -8,9 +8,15 @@ ghost use Rattle.runs.specs.Runs.{present};
 ghost use Rattle.search.specs.Raised.{Summed, Raised, RunReady};
 ghost use Rattle.search.specs.Extended.{Extending, Counted, Extended};
 
-use crate::{Place, rank_step, size_start};
+use crate::{EMPTY, Place, size_start};
 use runs::Runs;
 use whole::UNPLAYABLE;
+
+/// The tile more, alone, at the first entry of a run: no other tally of one tile comes before it.
+const TILE_MORE: Place = Place {
+    tiles: 1,
+    before: 0,
+};
 
 /// The greater of an entry and of the sum of two others.
 fn raised(entry: i32, a: i32, b: i32) -> i32
@@ -91,30 +97,28 @@ fn raise_splits(a: &[i32], b: &[i32], runs: Runs, part: Place, other: Place, run
     }
 }
 
-/// Raises the entries of a leave's extensions by the splits that give x of its last letter's tiles,
-/// and the tile more, to one side: that of what is played, and then that of what is kept.
-fn raise_both(sheet: &[i32], leave: &[i32], runs: Runs, stop: usize, x: usize, run: &mut [i32])
-    requires before { runs.stop ≡ stop - 1 }
-    requires extending { Extending sheet.now leave.now runs.tally.now stop (length run.old) }
-    requires inside { x ≤ get_or runs.tally.now (stop - 1) 0 }
-    ensures { Raised (λ j. Counted sheet.now leave.now runs.entry.tally.now stop j x)
+/// Raises the entries of a leave's extensions by the splits that give x of the tiles of its last
+/// letter, which stands after the runs, and the tile more, to one side: that of what is played, and
+/// then that of what is kept.
+#[tactic(auto, using(crate::specs::Extended::stop_some, crate::specs::Extended::stop_inside))]
+fn raise_both(sheet: &[i32], leave: &[i32], runs: Runs, x: usize, run: &mut [i32])
+    requires extending { Extending sheet.now leave.now runs.tally.now (runs.stop + 1)
+        (length run.old) }
+    requires inside { x ≤ get_or runs.tally.now runs.stop 0 }
+    ensures { Raised (λ j. Counted sheet.now leave.now runs.entry.tally.now
+        (runs.entry.stop + 1) j x)
         run.old run.new }
 {
-    let m = runs.tally.len() - stop;
-    let y = usize::from(runs.tally[stop - 1]) - x;
-    let part = Place {
-        tiles: x + 1,
-        before: rank_step(m, x + 1, x),
-    };
-    let other = Place {
-        tiles: y,
-        before: rank_step(m, y, y),
-    };
+    let m = runs.tally.len() - (runs.stop + 1);
+    let y = usize::from(runs.tally[runs.stop]) - x;
+    let part = TILE_MORE.with(m, x);
+    let other = EMPTY.with(m, y);
     raise_splits(sheet, leave, runs, part, other, run);
     raise_splits(leave, sheet, runs, part, other, run);
 }
 
 /// The same for every x.
+#[tactic(auto, using(crate::specs::Extended::stop_some, crate::specs::Extended::stop_inside))]
 fn raise_extensions(sheet: &[i32], leave: &[i32], tally: &[u8], stop: usize, run: &mut [i32])
     requires { Extending sheet.now leave.now tally.now stop (length run.old) }
     ensures { Raised
@@ -125,7 +129,7 @@ fn raise_extensions(sheet: &[i32], leave: &[i32], tally: &[u8], stop: usize, run
     let runs = Runs::first(tally, stop - 1);
     let count = usize::from(tally[stop - 1]);
     for x in 0..=count {
-        raise_both(sheet, leave, runs, stop, x, run);
+        raise_both(sheet, leave, runs, x, run);
     }
 }
 

@@ -8,6 +8,7 @@ use runs::Runs;
 use search::{EMPTY, Place, size_start};
 
 /// x is added to the entry at i, if there is one.
+#[tactic(auto, unfolding(crate::specs::Spread::add_one))]
 fn add_one(xs: &mut [f64], i: usize, x: f64)
     ensures { xs.new ≡ add_one i x xs.old }
 {
@@ -34,6 +35,7 @@ fn add_run(xs: &mut [f64], at: usize, len: usize, numbers: &[f64])
 
 /// The first number is added to the entry at `part`, and those after it, len of them, to the
 /// entries from `racks` on.
+#[tactic(auto, using(crate::proofs::Spreading::part_done))]
 fn add_part(xs: &mut [f64], part: usize, racks: usize, len: usize, numbers: &[f64])
     requires numbers { len < length numbers.now }
     requires racks { racks ≤ 4294967294 }

@@ -75,6 +75,7 @@ pub fn within_limit(weight: u64, most: u64) -> bool
 
 /// Whether all hands, times the largest sheet plus the largest leave and at least 16, are at most
 /// 2^53.
+// Decides, not an equivalence (N): each direction has a name, by which the callers' proofs cite it.
 pub fn within_weight(pool: &[u8], r: usize, sheet: u64, leave: u64) -> bool
     requires letters { length pool.now ≤ 64 }
     requires tiles { r ≤ 15 }

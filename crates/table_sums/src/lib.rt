@@ -37,6 +37,7 @@ fn deal_from(sizes: Sizes, unseen: &[u8], den: &mut [f64])
 /// The sums, where den has the ways of the full racks.
 // best, unseen, num and den go side by side (C): they are lent slices, and num and den written
 // through, here and below.
+#[tactic(auto, using(crate::specs::Calls::values_fit, crate::specs::Calls::fold_fits))]
 fn sum_racks(sizes: Sizes, best: &[i32], unseen: &[u8], num: &mut [f64], den: &mut [f64])
     requires { Summing sizes best.now unseen.now num.old den.old }
     ensures { Filled (length unseen.now) sizes.r (best_at (length unseen.now) best.now) unseen.now
@@ -49,6 +50,7 @@ fn sum_racks(sizes: Sizes, best: &[i32], unseen: &[u8], num: &mut [f64], den: &m
 
 /// The ways of the full racks are dealt into den, which gives the largest best that counts. Beyond
 /// the limit they are taken out again.
+#[tactic(auto, using(crate::specs::Calls::clearly, crate::specs::Calls::most_fits, crate::specs::Calls::some_most))]
 fn apportion_dealt(
     w: u64,
     sizes: Sizes,
@@ -99,6 +101,7 @@ fn apportion_sized(
 /// Fills num and den, which are +0.0 on entry: at each multiset, full racks included, the sum of
 /// the bests of the hands that hold it, and the number of those hands. best, num and den have the
 /// lattice's length, unseen has n counts.
+#[tactic(auto, using(crate::specs::Calls::sized_of))]
 pub fn apportion_table(
     lat: Lattice,
     best: &[i32],

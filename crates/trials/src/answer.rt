@@ -4,10 +4,11 @@
 // of an answer, in structs: the C interface's structs are no part of a list.
 use refusal::{Refusal, number};
 use search::Kept;
-use search::calls::{Kind, Play};
+use search::calls::Play;
 use whole::UNPLAYABLE;
 
 /// The rank that stands for none.
+// (N): the list's format says it; census, which says it of the C interface, is not used here.
 const NO_RANK: u32 = u32::MAX;
 
 pub fn rank(answer: Result<u32, Refusal>) -> (u8, u32) {
@@ -34,14 +35,7 @@ pub fn keep(answer: Result<Option<Kept>, Refusal>) -> (u8, i32, u32) {
 /// The kind comes last: 0 no move, 1 a word, 2 an exchange.
 pub fn play(answer: Result<Play, Refusal>) -> (u8, i32, u8) {
     match answer {
-        Ok(play) => {
-            // As in census (N): a kind is a number in a list and in the C interface alone.
-            let kind = match play.kind {
-                Kind::Word => 1,
-                Kind::Exchange => 2,
-            };
-            (0, play.best, kind)
-        }
+        Ok(play) => (0, play.best, u8::from(play.kind)),
         Err(refusal) => (u8::from(refusal), UNPLAYABLE, 0),
     }
 }

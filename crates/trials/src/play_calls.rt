@@ -7,6 +7,7 @@ use refusal::number;
 use search::calls;
 
 /// The most letters of a lattice.
+// (N): listing, which has the same for its fixed memory, is not used here.
 const MOST_LETTERS: usize = 64;
 
 impl Case {

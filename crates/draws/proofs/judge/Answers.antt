@@ -1,5 +1,6 @@
 -- The tests go in the order of the numbers. Assumes nothing.
 use Rattle.std.proofs.Common.{sym, ◌∙◌, refl}
+use mathlib.Core.Bool.{false≢true}
 use Rattle.std.proofs.lemmas.Result.{err_from_is_err_and}
 use Rattle.draws.specs.Draws.{Lengths}
 use Rattle.draws.specs.Draws.DrawNumber.{sizes, lengths, place, rule}
@@ -30,19 +31,19 @@ right c =
 pub returns-then-not-fills : goal.returns-then-not-fills
 returns-then-not-fills c =
     let s = c.in_ok-sizes.sizes in
-    rw (← c.in_ok-sizes.ensures.0, ← c.in_ok-sizes.ensures.1) record { given = tt; fills = tt; err = place s.is_served (right (goal.at.returns-then-not-fills c).After-fills) (c.fills.ensures.no c.if-not-fills.true) }
+    rw (← c.in_ok-sizes.ensures.0, ← c.in_ok-sizes.ensures.1) record { given = tt; fills = tt; err = place s.is_served (right (goal.at.returns-then-not-fills c).After-fills) (λ f. false≢true (sym c.if-not-fills.true ∙ c.fills.ensures.1 f)) }
 
 pub returns-then-not-add_is_right : goal.returns-then-not-add_is_right
 returns-then-not-add_is_right c =
     let s = c.in_ok-sizes.sizes in
     rw (← c.in_ok-sizes.ensures.0, ← c.in_ok-sizes.ensures.1)
-    record { given = tt; fills = tt; err = rule s.is_served (right (goal.at.returns-then-not-add_is_right c).After-fills) (c.fills.ensures.yes c.if-not-fills.false) (c.add_is_right.ensures.no c.if-not-add_is_right.true) }
+    record { given = tt; fills = tt; err = rule s.is_served (right (goal.at.returns-then-not-add_is_right c).After-fills) (c.fills.ensures.0 c.if-not-fills.false) (c.add_is_right.ensures.no c.if-not-add_is_right.true) }
 
 pub returns : goal.returns
 returns c =
     let s = c.in_ok-sizes.sizes in
     record {
       given = record { letters = c.in_ok-sizes.ensures.0; tiles = c.in_ok-sizes.ensures.1; adds = refl; fulls = refl; pools = refl };
-      fills = rw (← c.in_ok-sizes.ensures.0, ← c.in_ok-sizes.ensures.1) (c.fills.ensures.yes c.if-not-fills.false);
+      fills = rw (← c.in_ok-sizes.ensures.0, ← c.in_ok-sizes.ensures.1) (c.fills.ensures.0 c.if-not-fills.false);
       err = tt;
     }

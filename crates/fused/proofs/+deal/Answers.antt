@@ -62,10 +62,6 @@ loop-c-preserved t c =
 pub returns-then-rem-eq0 : goal.returns-then-rem-eq0
 returns-then-rem-eq0 t c = rw c.if-rem-eq0.true (dealt_none _ _ _ _ (leaf_room c.requires c.if-rem-eq0.true))
 
-pub returns-else-rem-eq0 : goal.returns-else-rem-eq0
-returns-else-rem-eq0 t c =
-    deal_done c.requires c.if-rem-eq0.false c.held-u.ensures.same c.min-high.ensures (omega arith) c.loop-c.invariant.2
-
 pub returns-else-rem-eq0-2 : goal.returns-else-rem-eq0-2
 returns-else-rem-eq0-2 t c =
     let d = c.requires in

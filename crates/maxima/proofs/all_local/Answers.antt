@@ -13,6 +13,7 @@ use Rattle.lattice.specs.Served.{facts}
 use Rattle.runs.specs.Runs.{present}
 use Rattle.maxima.specs.Judge.{Smaller}
 use Rattle.maxima.specs.Walk.{reached_end, reached_small, reached_no, reached_next}
+use Rattle.maxima.proofs.Laws.{told}
 use Rattle.maxima.proofs.all_local.Goals.{After-greatest_below}
 use Rattle.maxima.proofs.all_local.Goals as goal
 
@@ -35,7 +36,7 @@ module _ (c : goal.After-greatest_below) where
 pub returns-then-greatest_below-entry : goal.returns-then-greatest_below-entry
 returns-then-greatest_below-entry c =
     let inv = c.loop-i.invariant in
-    rw (sym inv.1) (reached_no inv.3 (inside (goal.at.returns-then-greatest_below-entry c).After-greatest_below) (found (goal.at.returns-then-greatest_below-entry c).After-greatest_below) (λ e. c.if-greatest_below-entry.true (ap (of_z w32) e)))
+    told (rw (sym inv.1) (reached_no inv.3 (inside (goal.at.returns-then-greatest_below-entry c).After-greatest_below) (found (goal.at.returns-then-greatest_below-entry c).After-greatest_below) (λ e. c.if-greatest_below-entry.true (ap (of_z w32) e))))
 
 pub next_tally-word-requires : goal.next_tally-word-requires
 next_tally-word-requires c =
@@ -54,4 +55,4 @@ loop-i-preserved c =
 pub returns : goal.returns
 returns c =
     let inv = c.loop-i.invariant in
-    rw (sym inv.1) (reached_end inv.3 (omega (arith, c.loop-i-test.false)))
+    told (rw (sym inv.1) (reached_end inv.3 (omega (arith, c.loop-i-test.false))))

@@ -5,7 +5,7 @@ use lib.Seq.{length-take-le}
 use Rattle.lattice.specs.Lattice.{length_lattice}
 use Rattle.lattice.specs.Served.{facts}
 use Rattle.maxima.specs.Judge.{Judging}
-use Rattle.maxima.proofs.Laws.{reached_first, told}
+use Rattle.maxima.proofs.Laws.{reached_first}
 use Rattle.maxima.proofs.is_subset_max.Goals.{Start}
 use Rattle.maxima.proofs.is_subset_max.Goals as goal
 
@@ -17,14 +17,8 @@ judging s =
     let long = s.args.sizes.counts ∙ sym (length_lattice s.args.sizes.n s.args.sizes.r) in
     record { sizes = s.args.sizes.is_served; in_d = s.requires.in_d ∙ long; in_m = s.requires.in_m ∙ long }
 
-pub slice_bounds-tally-end : goal.slice_bounds-tally-end
-slice_bounds-tally-end c = letters c
-
 pub slice_bounds-all_local-end : goal.slice_bounds-all_local-end
 slice_bounds-all_local-end c = sym (length-take-le _ _ (letters (goal.at.slice_bounds-all_local-end c).Start))
-
-pub slice_bounds-at-end : goal.slice_bounds-at-end
-slice_bounds-at-end c = letters (goal.at.slice_bounds-at-end c).Start
 
 pub slice_bounds-all_local-end-2 : goal.slice_bounds-all_local-end-2
 slice_bounds-all_local-end-2 c = sym (length-take-le _ _ (letters (goal.at.slice_bounds-all_local-end-2 c).Start))
@@ -33,4 +27,4 @@ pub all_local-requires : goal.all_local-requires
 all_local-requires c = let s = (goal.at.all_local-requires c).Start in reached_first (letters s) (judging s)
 
 pub returns : goal.returns
-returns c = told (rw (length-take-le _ _ (letters (goal.at.returns c).Start)) at c.all_local.ensures)
+returns c = rw (length-take-le _ _ (letters (goal.at.returns c).Start)) at c.all_local.ensures

@@ -1,5 +1,4 @@
 -- `maxima::lift_row` meets its contract. The invariant: dst is what the letters below t make of dst at entry, and is as long. The measure is what is left of the letters. Assumes nothing.
-use Prim.Native.Nat.{◌≤◌}
 use mathlib.Core.Path.{◌≡◌}
 use lib.ListN.{length}
 use Rattle.maxima.specs.Maxima.{lift_row}

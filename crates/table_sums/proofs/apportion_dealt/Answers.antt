@@ -2,19 +2,8 @@
 use mathlib.Core.Path.{refl}
 use mathlib.Core.Bool.{false≢true}
 use Rattle.whole.proofs.Steps.{zero_literal}
-use Rattle.table_sums.specs.Calls.{summed, beyond_restored, clearly, most_fits, some_most, limit_holds, limit_fails, summing, restored}
+use Rattle.table_sums.specs.Calls.{summed, beyond_restored, limit_holds, limit_fails, summing, restored}
 use Rattle.table_sums.proofs.apportion_dealt.Goals as goal
-
-pub deal_from-requires : goal.deal_from-requires
-deal_from-requires c = clearly c.requires
-
-pub most_of-most-requires : goal.most_of-most-requires
-most_of-most-requires c =
-    let f = most_fits c.requires c.deal_from.ensures in
-    record { racks = f.0; ways = f.1 }
-
-pub within_limit-requires : goal.within_limit-requires
-within_limit-requires c = some_most c.requires c.deal_from.ensures c.most_of-most.ensures
 
 pub sum_racks-requires : goal.sum_racks-requires
 sum_racks-requires c =

@@ -1,8 +1,8 @@
-use Rattle.std.proofs.Common.{sym, refl, ◌∙◌, arith}
+use Rattle.std.proofs.Common.{sym, ◌∙◌, arith}
 use mathlib.Core.Bool.{false≢true}
 use Rattle.std.proofs.lemmas.Result.{err_from_is_err_and}
 use Rattle.table_sums.specs.Table.{sizes, lengths}
-use Rattle.table_sums.specs.Calls.{sized_of, not_sized, refused}
+use Rattle.table_sums.specs.Calls.{not_sized, refused}
 use Rattle.table_sums.proofs.apportion_table.Goals as goal
 
 pub returns-in_err-sizes : goal.returns-in_err-sizes
@@ -15,11 +15,3 @@ returns-then-not-lengths_fit c =
     let s = c.in_ok-sizes.sizes in
     rw (← c.in_ok-sizes.ensures.0, ← c.in_ok-sizes.ensures.1)
     (refused (lengths s.is_served (not_sized s.counts (λ h. false≢true (c.if-not-lengths_fit.ensures.1 h)))) (λ e. omega arith))
-
-pub apportion_sized-requires : goal.apportion_sized-requires
-apportion_sized-requires c =
-    sized_of c.in_ok-sizes.sizes.counts (c.if-not-lengths_fit.ensures.0 refl)
-
-pub returns : goal.returns
-returns c =
-    rw (← c.in_ok-sizes.ensures.0, ← c.in_ok-sizes.ensures.1) c.apportion_sized.ensures

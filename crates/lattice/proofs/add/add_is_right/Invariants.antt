@@ -7,10 +7,10 @@ use Rattle.lattice.proofs.add.add_is_right.Given as goal
 
 abbrev pub invariant-loop-rank : goal.invariant-loop-rank
 invariant-loop-rank l = record {
-  letters : l.walk.n ≡ l.sizes.n;
-  tiles : l.walk.r ≡ l.sizes.r;
+  letters : l.walk.sizes.n ≡ l.sizes.n;
+  tiles : l.walk.sizes.r ≡ l.sizes.r;
   at : l.walk.rank ≡ l.rank;
   rows : RowsRight l.sizes.n l.sizes.r l.rank (λ j t. up l.sizes.n l.add t j);
-  before : RowBefore (row_top l.walk.n l.walk.rank (take l.walk.n l.walk.tails)) (take l.walk.n l.walk.tails) l.walk.kept l.prior l.add;
+  before : RowBefore (row_top l.walk.sizes.n l.walk.rank (take l.walk.sizes.n l.walk.tails)) (take l.walk.sizes.n l.walk.tails) l.walk.kept l.prior l.add;
   inside : l.prior + l.walk.kept ≤ length l.add;
 }

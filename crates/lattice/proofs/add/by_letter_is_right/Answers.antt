@@ -4,16 +4,16 @@ use mathlib.Core.Bool.{false≢true}
 use Rattle.lattice.specs.Served.{facts}
 use Rattle.lattice.specs.AddRows.{Decides, lowered}
 use Rattle.lattice.specs.AddRow.{row_top}
-use Rattle.lattice.proofs.AddWalk.{more_right, right_in, rows_done, walk_letters}
+use Rattle.lattice.proofs.AddWalk.{same_letters, same_tiles, more_right, right_in, rows_done, walk_letters}
 use Rattle.lattice.proofs.AddNext.{decides_same}
 use Rattle.lattice.proofs.add.by_letter_is_right.Goals.{After-row_is_same}
 use Rattle.lattice.proofs.add.by_letter_is_right.Goals as goal
 
 -- what the comparison tells of the table
-judged : (c : goal.After-row_is_same) → Decides c.row_is_same.result ((k : ℕ) → k < length (take c.loop-rank.walk.n c.loop-rank.walk.tails) → get_or c.args.by_letter.now (k * c.args.sizes.leaves + c.loop-rank.rank) 0 ≡ lowered (row_top c.loop-rank.walk.n c.loop-rank.walk.rank (take c.loop-rank.walk.n c.loop-rank.walk.tails)) (take c.loop-rank.walk.n c.loop-rank.walk.tails) (suc k))
+judged : (c : goal.After-row_is_same) → Decides c.row_is_same.result ((k : ℕ) → k < length (take c.loop-rank.walk.sizes.n c.loop-rank.walk.tails) → get_or c.args.by_letter.now (k * c.args.sizes.leaves + c.loop-rank.rank) 0 ≡ lowered (row_top c.loop-rank.walk.sizes.n c.loop-rank.walk.rank (take c.loop-rank.walk.sizes.n c.loop-rank.walk.tails)) (take c.loop-rank.walk.sizes.n c.loop-rank.walk.tails) (suc k))
 judged c =
     let at = c.loop-rank in
-    decides_same _ _ c.args.sizes.n c.args.sizes.leaves at.rank _ _ c.args.by_letter.now _ (walk_letters at.walk.sizes at.walk.tails_of at.walk.inside ∙ at.invariant.letters) (omega (arith, at.walk.sizes.letters, at.invariant.letters)) c.put.ensures c.row_is_same.ensures
+    decides_same _ _ c.args.sizes.n c.args.sizes.leaves at.rank _ _ c.args.by_letter.now _ (walk_letters at.walk.served at.walk.tails_of at.walk.inside ∙ at.invariant.letters) (omega (arith, at.walk.served.letters, at.invariant.letters)) c.put.ensures c.row_is_same.ensures
 
 pub returns-then-not-row_is_same : goal.returns-then-not-row_is_same
 returns-then-not-row_is_same c =
@@ -23,7 +23,7 @@ returns-then-not-row_is_same c =
     record {
       yes = λ x. absurd (false≢true x);
       no = λ x table. (judged (goal.at.returns-then-not-row_is_same c).After-row_is_same).no c.if-not-row_is_same.true
-          (right_in known.letters known.tiles known.at at.walk.sizes at.walk.tails_of (omega (arith, c.loop-rank-test.true, c.args.sizes.starts)) (λ i t. get_or a.by_letter.now (t * a.sizes.leaves + i) 0) (rw c.args.sizes.starts table.entry));
+          (right_in known.letters known.tiles known.at at.walk.served at.walk.tails_of (omega (arith, c.loop-rank-test.true, c.args.sizes.starts)) (λ i t. get_or a.by_letter.now (t * a.sizes.leaves + i) 0) (rw c.args.sizes.starts table.entry));
     }
 
 pub loop-rank-preserved : goal.loop-rank-preserved
@@ -34,10 +34,10 @@ loop-rank-preserved c =
     let step = c.advance.ensures in
     let right = (judged (goal.at.loop-rank-preserved c).After-row_is_same).yes c.if-not-row_is_same.false in
     record {
-      letters = step.n ∙ known.letters;
-      tiles = step.r ∙ known.tiles;
+      letters = same_letters step.sizes ∙ known.letters;
+      tiles = same_tiles step.sizes ∙ known.tiles;
       at = omega (arith, step.rank, known.at);
-      rows = more_right known.letters known.tiles known.at at.walk.sizes at.walk.tails_of (omega (arith, c.loop-rank-test.true, c.args.sizes.starts)) (λ i t. get_or a.by_letter.now (t * a.sizes.leaves + i) 0) known.rows right;
+      rows = more_right known.letters known.tiles known.at at.walk.served at.walk.tails_of (omega (arith, c.loop-rank-test.true, c.args.sizes.starts)) (λ i t. get_or a.by_letter.now (t * a.sizes.leaves + i) 0) known.rows right;
       before = step.before 0 _ c.put.ensures.row;
     }
 

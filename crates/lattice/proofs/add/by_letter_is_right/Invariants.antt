@@ -6,9 +6,9 @@ use Rattle.lattice.proofs.add.by_letter_is_right.Given as goal
 
 abbrev pub invariant-loop-rank : goal.invariant-loop-rank
 invariant-loop-rank l = record {
-  letters : l.walk.n ≡ l.sizes.n;
-  tiles : l.walk.r ≡ l.sizes.r;
+  letters : l.walk.sizes.n ≡ l.sizes.n;
+  tiles : l.walk.sizes.r ≡ l.sizes.r;
   at : l.walk.rank ≡ l.rank;
   rows : RowsRight l.sizes.n l.sizes.r l.rank (λ j t. get_or l.by_letter (t * l.sizes.leaves + j) 0);
-  before : RowBefore (row_top l.walk.n l.walk.rank (take l.walk.n l.walk.tails)) (take l.walk.n l.walk.tails) l.walk.kept 0 l.row;
+  before : RowBefore (row_top l.walk.sizes.n l.walk.rank (take l.walk.sizes.n l.walk.tails)) (take l.walk.sizes.n l.walk.tails) l.walk.kept 0 l.row;
 }

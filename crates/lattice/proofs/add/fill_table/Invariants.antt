@@ -7,11 +7,11 @@ use Rattle.lattice.proofs.add.fill_table.Given as goal
 
 abbrev pub invariant-loop-rank : goal.invariant-loop-rank
 invariant-loop-rank l = record {
-  letters : l.walk.n ≡ l.sizes.n;
-  tiles : l.walk.r ≡ l.sizes.r;
+  letters : l.walk.sizes.n ≡ l.sizes.n;
+  tiles : l.walk.sizes.r ≡ l.sizes.r;
   at : l.walk.rank ≡ l.rank;
   size : length l.add ≡ length l.initial.add;
   rows : RowsRight l.sizes.n l.sizes.r l.rank (λ j t. up l.sizes.n l.add t j);
-  before : RowBefore (row_top l.walk.n l.walk.rank (take l.walk.n l.walk.tails)) (take l.walk.n l.walk.tails) l.walk.kept l.prior l.add;
+  before : RowBefore (row_top l.walk.sizes.n l.walk.rank (take l.walk.sizes.n l.walk.tails)) (take l.walk.sizes.n l.walk.tails) l.walk.kept l.prior l.add;
   apart : l.prior + l.walk.kept ≤ l.rank * l.sizes.n;
 }

@@ -2,9 +2,8 @@
 use Rattle.std.proofs.Common.{◌≡◌, ◌<◌, ◌≤◌, length, ap, ◌∙◌, to_z-of_z, w64, arith, rules}
 use mir.ValLaws.{to_z_pos}
 use Rattle.lattice.specs.Tally.{start}
-use Rattle.listing.specs.Sizes.{cells_served}
 use Rattle.listing.specs.Board.{board_lent}
-use Rattle.listing.proofs.Census.{sizes_served, leaves_some, leaves_few}
+use Rattle.listing.proofs.Census.{sizes_served, leaves_some}
 use Rattle.listing.proofs.Lines.{bottom_whole, header_is, row_is, page_is}
 use Rattle.listing.proofs.page.sums_page.Goals as goal
 
@@ -12,12 +11,6 @@ pub overflow_cast-board-2 : goal.overflow_cast-board-2
 overflow_cast-board-2 c =
     let b = c.args.board in
     let h : b.r ≤ 15 = (sizes_served b.n b.r b.served).tiles in
-    search rules
-
-pub bounds-den-0 : goal.bounds-den-0
-bounds-den-0 c =
-    let b = c.args.board in
-    let h : 0 < length c.args.den.now = omega (arith, leaves_some b.n b.r b.served, c.requires.dens) in
     search rules
 
 pub integer-requires : goal.integer-requires
@@ -37,11 +30,6 @@ loop-rank-init c =
           (to_z-of_z {w = w64} (record { sfits = c.integer.type_inv }) ∙ c.integer.ensures (bottom_whole (s.ratio 0 h)));
       short = omega (arith, ap length c.new-page.ensures);
     }
-
-pub push_row-requires-clause-room : goal.push_row-requires-clause-room
-push_row-requires-clause-room c =
-    let b = c.args.board in
-    omega (arith, c.leaves-rank-end.ensures, leaves_few b.n b.r b.served, (cells_served b.n b.r b.served).few)
 
 pub loop-rank-preserved : goal.loop-rank-preserved
 loop-rank-preserved c =

@@ -6,7 +6,6 @@ use Rattle.lattice.specs.Lattice.{length_lattice}
 use Rattle.lattice.specs.RankTables.{TableLengths, RanksNumber}
 use Rattle.lattice.specs.declared.sizes.Sizes.{Sizes}
 use Rattle.lattice.specs.RankTables.RanksNumber.{accepted, lengths, rule}
-use Rattle.maxima.specs.Maxima.{SubsetMax}
 use Rattle.maxima.specs.Answers.{Lengths, SubsetMaxNumber, refused, accepts}
 use Rattle.refusal.specs.Refusal.{code_some}
 use Rattle.maxima.proofs.calls.subset_max_transform.Goals.{then-src-sizes-via-then-src-sizes, then-src-sizes-via-else-src-sizes+then-dst-sizes}

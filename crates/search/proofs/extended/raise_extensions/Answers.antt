@@ -1,32 +1,28 @@
 -- `search::extended::raise_extensions` meets its contract. The loop's invariant: the counts passed have raised the run. Assumes nothing.
-use mathlib.Core.Path.{◌≡◌, ◌∙◌, subst}
+use mathlib.Core.Path.{◌≡◌, sym, ◌∙◌, subst}
 use Prim.Native.Nat.{ℕ, suc, ◌+◌, ◌-◌}
 use native.Mathlib.Omega.{arith}
 use lib.ListN.{length, get_or}
 use Rattle.laws.specs.Greatest.{Below}
 use Rattle.search.specs.Raised.{Raised, raised_more}
-use Rattle.search.specs.Extended.{Counted, stop_some, stop_inside}
-use Rattle.search.proofs.extended.raise_extensions.Goals.{After-raise_both}
+use Rattle.search.specs.Extended.{Extending, Counted, stop_some}
+use Rattle.search.proofs.extended.raise_extensions.Goals.{In-loop-x, After-raise_both}
 use Rattle.search.proofs.extended.raise_extensions.Goals as goal
 
-pub overflow_sub-stop : goal.overflow_sub-stop
-overflow_sub-stop c = omega (arith, stop_some c.requires)
+-- the letter after the runs
+one : (c : goal.In-loop-x) → c.first-runs.result.stop + 1 ≡ c.args.stop
+one c = omega (arith, c.first-runs.ensures.stop, stop_some c.requires)
 
-pub first-runs-requires-clause-inside : goal.first-runs-requires-clause-inside
-first-runs-requires-clause-inside c = omega (arith, stop_inside c.requires)
-
-pub overflow_sub-stop-2 : goal.overflow_sub-stop-2
-overflow_sub-stop-2 c = omega (arith, stop_some c.requires)
-
-pub bounds-tally-stop : goal.bounds-tally-stop
-bounds-tally-stop c = omega (arith, stop_some c.requires, stop_inside c.requires)
+pub raise_both-requires-clause-extending : goal.raise_both-requires-clause-extending
+raise_both-requires-clause-extending c =
+    rw (c.first-runs.ensures.tally, one (goal.at.raise_both-requires-clause-extending c).In-loop-x) (subst (Extending _ _ _ _) (sym c.loop-x.invariant.1) c.requires)
 
 -- after a turn: the run is raised by the turns up to it
 turned : (c : goal.After-raise_both)
     → (length c.raise_both.new.run ≡ length c.args.run.now) × Raised (λ j. Below (Counted c.args.sheet.now c.args.leave.now c.args.tally.now c.args.stop j) (c.loop-x.x + 1)) c.args.run.now c.raise_both.new.run
 turned c =
     let l = c.loop-x.invariant in
-    let v = rw c.first-runs.ensures.tally at c.raise_both.ensures in
+    let v = rw (c.first-runs.ensures.tally, one (goal.at.After-raise_both c).In-loop-x) at c.raise_both.ensures in
     (v.size ∙ l.1, raised_more l.2 v)
 
 pub loop-x-preserved : goal.loop-x-preserved

@@ -11,20 +11,6 @@ use Rattle.extensions.specs.Onward.{reached_first, reached_walks, reached_next, 
 use Rattle.search.specs.Racks.{RacksReady, Filled, filled_none, filled_leave, leave_ready, leave_room}
 use Rattle.search.proofs.racks.fill_racks.Goals as goal
 
-pub overflow_sub-r : goal.overflow_sub-r
-overflow_sub-r c =
-    omega (arith, (facts (length c.args.tally.now) c.args.r c.requires.sizes).some_tile)
-
-pub size_start-from-requires : goal.size_start-from-requires
-size_start-from-requires c =
-    let f = facts (length c.args.tally.now) c.args.r c.requires.sizes in
-    record { letters = f.letters; tiles = omega (arith, f.tiles) }
-
-pub size_start-end-requires : goal.size_start-end-requires
-size_start-end-requires c =
-    let f = facts (length c.args.tally.now) c.args.r c.requires.sizes in
-    record { letters = f.letters; tiles = omega (arith, f.tiles) }
-
 pub extend_at-e-requires : goal.extend_at-e-requires
 extend_at-e-requires c =
     let from = c.size_start-from.ensures in

@@ -12,9 +12,6 @@ loop-c-preserved c =
     let v = rw (c.first-runs.ensures.tally, c.first-runs.ensures.stop) at c.spread_count.ensures in
     (omega arith, turned_more l.1 v.num, turned_more l.2 v.den)
 
-pub returns : goal.returns
-returns c = absurd (omega arith)
-
 pub returns-2 : goal.returns-2
 returns-2 c =
     let l = c.loop-c.invariant in

@@ -39,9 +39,6 @@ loop-c-preserved t c =
 pub returns-then-k-t : goal.returns-then-k-t
 returns-then-k-t t c = run_done c.requires c.if-k-t.true c.choose-size.ensures (ap (λ (x : ℕ). c.args.v + x) c.rank_step.ensures) c.gain_run.ensures
 
-pub returns-else-k-t : goal.returns-else-k-t
-returns-else-k-t t c = absurd (omega (arith, c.loop-c-test.false, c.loop-c.auto.c-end))
-
 pub returns-else-k-t-2 : goal.returns-else-k-t-2
 returns-else-k-t-2 t c =
     let few : c.loop-c.c < c.args.rem + 1 = omega (arith, c.loop-c-test.true) in

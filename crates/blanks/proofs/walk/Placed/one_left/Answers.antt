@@ -65,9 +65,6 @@ forces c =
     let f = c.saturating_sub-forced.ensures in
     omega arith
 
-pub loop-last-init : goal.loop-last-init
-loop-last-init c = record { ready = rw (to_z-of_z w32 c.args.v c.ranges.v) c.requires.ready; same = refl; letters = c.requires.word; size = refl; rest = λ s r. r }
-
 pub invariant_of-runs : goal.invariant_of-runs
 invariant_of-runs c =
     let g = c.loop-last.invariant in

@@ -1,23 +1,16 @@
 -- `draws::walk::Tables::gain_tile` meets its contract. Assumes nothing.
 use mathlib.Core.Path.{sym, ◌∙◌, subst}
 use Prim.Native.Nat.{ℕ}
-use native.Mathlib.Omega.{arith}
 use lib.ListN.{length}
 use Rattle.whole.proofs.Steps.{one_literal}
 use Rattle.draws.specs.Walk.{met_tile, Gathered}
-use Rattle.draws.specs.Walking.{tile_place, tile_best, tile_none, tile_some}
+use Rattle.draws.specs.Walking.{tile_none, tile_some}
 use Rattle.draws.proofs.walk.Tables.gain_tile.Goals as goal
 
 pub returns-then-count-eq0 : goal.returns-then-count-eq0
 returns-then-count-eq0 c =
     let a = c.args in
     tile_none (length a.self.now.pool.now) a.self.now.add.now a.u a.leave.w a.leave.ridx _ (sym c.held-count.ensures.same ∙ c.if-count-eq0.true)
-
-pub raised-requires : goal.raised-requires
-raised-requires c = tile_place c.requires.walk.1 c.requires.letter
-
-pub gain-requires : goal.gain-requires
-gain-requires c = omega (arith, tile_best c.requires.walk.1 c.requires.letter, c.raised.ensures)
 
 pub returns : goal.returns
 returns c =

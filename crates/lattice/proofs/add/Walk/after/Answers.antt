@@ -10,12 +10,12 @@ use Rattle.lattice.proofs.add.Walk.after.Goals as goal
 tiles : (c : goal.In-None) → get_or c.args.self.now.tails 0 0 + 1 ≤ 16
 tiles c =
     let w = c.args.self.now in
-    omega (arith, get_or-take w.n w.tails 0 0 w.sizes.some_letter, tiles_few w.n w.r w.sizes w.rank (take w.n w.tails) c.requires.leave w.tails_of)
+    omega (arith, get_or-take w.sizes.n w.tails 0 0 w.served.some_letter, tiles_few w.sizes.n w.sizes.r w.served w.rank (take w.sizes.n w.tails) c.requires.leave w.tails_of)
 
-fits : (c : goal.In-None) → top c.args.self.now.n c.args.self.now.rank (get_or c.args.self.now.tails 0 0) < 8589934592
+fits : (c : goal.In-None) → top c.args.self.now.sizes.n c.args.self.now.rank (get_or c.args.self.now.tails 0 0) < 8589934592
 fits c =
     let w = c.args.self.now in
-    rw (get_or-take w.n w.tails 0 0 w.sizes.some_letter) at (top_fits w.n w.r w.sizes w.rank (take w.n w.tails) c.requires.leave w.tails_of)
+    rw (get_or-take w.sizes.n w.tails 0 0 w.served.some_letter) at (top_fits w.sizes.n w.sizes.r w.served w.rank (take w.sizes.n w.tails) c.requires.leave w.tails_of)
 
 pub choose-requires-clause-tiles : goal.choose-requires-clause-tiles
 choose-requires-clause-tiles c = tiles (goal.at.choose-requires-clause-tiles c).In-None
@@ -33,4 +33,4 @@ pub returns-in-None : goal.returns-in-None
 returns-in-None c =
     let w = c.args.self.now in
     let none : length c.args.first.now ≡ 0 = grind (arith, common_steps) in
-    rw (none, lowered_zero) (top_sum w.n w.rank w.tails w.sizes.some_letter c.choose.ensures c.choose-in-None.ensures)
+    rw (none, lowered_zero) (top_sum w.sizes.n w.rank w.tails w.served.some_letter c.choose.ensures c.choose-in-None.ensures)

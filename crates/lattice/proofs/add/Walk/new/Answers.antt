@@ -14,7 +14,7 @@ invariant_of-result c =
     let sizes = facts n r c.args.sizes.is_served in
     let zeros = sym (take_zeros n 64 sizes.letters) in
     record {
-      sizes = sizes;
+      served = sizes;
       inside = zero-le;
       tails_of = subst (Tails (tally_at n r 0)) zeros (walk_start n r sizes);
       last_of = rw zeros at (last_none n sizes.some_letter);

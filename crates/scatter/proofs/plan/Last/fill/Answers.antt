@@ -3,7 +3,7 @@ use Rattle.std.proofs.Common.{◌≡◌, ℕ, suc, ◌+◌, ◌-◌, ◌<◌, �
 use Rattle.lattice.specs.Tally.{total, within}
 use Rattle.lattice.specs.Step.{total_drop}
 use Rattle.scatter.specs.Offsets.{step_at, taken_none_suc, offset, offset_whole}
-use Rattle.scatter.specs.Plan.{lasting_start, lasting_next, lasts_done, step_read, offset_read, whole_read, none_fits, offset_fits, whole_fits, total_drop_le}
+use Rattle.scatter.specs.Plan.{lasting_start, lasting_next, step_read, offset_read, whole_read, none_fits, offset_fits, whole_fits, total_drop_le}
 use Rattle.scatter.proofs.plan.Last.fill.Goals.{After-rank_step, After-rank_step-in-loop-t, After-rank_step-none, In-loop-t}
 use Rattle.scatter.proofs.plan.Last.fill.Goals as goal
 
@@ -95,7 +95,3 @@ pub loop-t-preserved : goal.loop-t-preserved
 loop-t-preserved c =
     let s = goal.at.loop-t-preserved c in
     lasting_next c.requires.letters c.loop-t.invariant c.loop-t-test.true (ap (λ (x : ℕ). c.loop-t.none + x) (step3_is s.After-rank_step-none)) (once_is s.After-rank_step) (whole_is s.After-rank_step-in-loop-t)
-
-pub returns : goal.returns
-returns c =
-    lasts_done c.requires.letters c.loop-t.invariant (omega (arith, c.loop-t-test.false, c.loop-t.invariant.to))

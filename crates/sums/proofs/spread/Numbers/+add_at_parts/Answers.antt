@@ -91,9 +91,6 @@ returns-in-None t c =
       den = skip_up _ _ _ _ _ _ _ _ _ (omega arith) letters absent (walk_whole _ _ _ _ _ _ _ _ _ e f c.add_part-in-None.ensures);
     }
 
-pub returns-in-Some : goal.returns-in-Some
-returns-in-Some t c = absurd (omega arith)
-
 pub returns-in-Some-2 : goal.returns-in-Some-2
 returns-in-Some-2 t c =
     let run = c.in-Some.ensures in
