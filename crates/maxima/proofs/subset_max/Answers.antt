@@ -3,4 +3,4 @@ use Rattle.maxima.proofs.subset_max.Goals as goal
 
 pub returns-clause-greatest : goal.returns-clause-greatest
 returns-clause-greatest c =
-    max_by_rows c.requires.starts c.requires.by_index c.requires.in_src c.copy_from_slice.ensures.after c.lift_rows.ensures
+    max_by_rows c.requires.starts c.requires.by_index c.requires.in_src c.copy.ensures c.lift_rows.ensures
