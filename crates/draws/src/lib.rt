@@ -11,10 +11,10 @@ use lattice::sizes::Sizes;
 use lattice::{Lattice, start_of};
 use refusal::Refusal;
 use sums::weight::{tiles_in, weight, within_limit};
-use walk::{Drawn, Tables, Totals};
+use walk::{Drawn, Tables, Totals, Walk};
 use whole::cut;
 
-mod walk;
+pub mod walk;
 
 /// Whether the multiset at a rank makes a full rack with so many tiles more.
 #[tactic(auto, using(lattice::specs::Served::facts))]
@@ -80,7 +80,12 @@ fn mean_of(tables: Tables, s_ridx: usize, draw: usize) -> Result<Option<i32>, Re
         den: 0.0,
         most: 16,
     };
-    let sums = tables.aggregate(0, draw, tiles, leave, none);
+    let walk = Walk {
+        add: tables.add,
+        full_v: tables.full_v,
+        pool: tables.pool,
+    };
+    let sums = walk.aggregate(0, draw, tiles, leave, none);
     if !within_limit(hands, sums.most) {
         return Err(Refusal::Weight);
     }

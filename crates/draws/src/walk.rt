@@ -29,8 +29,16 @@ pub struct Drawn {
     pub ridx: usize,
 }
 
-/// What the walk reads: a lattice's sizes, its table of ranks with one tile more, the bests at the
-/// full racks' ranks, the pool.
+/// What the walk reads: a lattice's table of ranks with one tile more, the bests at the full racks'
+/// ranks, the pool.
+#[derive(Clone, Copy, Debug)]
+pub struct Walk<'a> {
+    pub add: &'a [u32],
+    pub full_v: &'a [i32],
+    pub pool: &'a [u8],
+}
+
+/// The same with the lattice's sizes, judged.
 #[derive(Clone, Copy, Debug)]
 pub struct Tables<'a> {
     pub sizes: Sizes,
@@ -53,7 +61,7 @@ fn next_binomial(binom: f64, u: usize, j: usize) -> f64
     binom * (u - j) as f64 / (j + 1) as f64
 }
 
-impl Tables<'_> {
+impl Walk<'_> {
     /// One rack more.
     #[inline]
     fn gain(&self, rack: Drawn, sums: Totals) -> Totals
@@ -82,7 +90,7 @@ impl Tables<'_> {
     #[inline]
     #[tactic(auto, using(crate::specs::Walking::tile_place, crate::specs::Walking::tile_best))]
     fn gain_tile(&self, u: usize, leave: Drawn, sums: Totals) -> Totals
-        requires walk { (left : ℕ) × Walking self.now.sizes.r self.now.add.now self.now.full_v.now
+        requires walk { (r : ℕ) × (left : ℕ) × Walking r self.now.add.now self.now.full_v.now
             self.now.pool.now u 1 left leave.ridx }
         requires letter { u < length self.now.pool.now }
         ensures { Gathered self.now.full_v.now (met_tile (length self.now.pool.now)
@@ -102,7 +110,7 @@ impl Tables<'_> {
     /// As `aggregate` with one tile to come: a rack for each letter from t on that the pool has,
     /// from the last letter back.
     fn aggregate_last(&self, t: usize, leave: Drawn, sums: Totals) -> Totals
-        requires { (left : ℕ) × Walking self.now.sizes.r self.now.add.now self.now.full_v.now
+        requires { (r : ℕ) × (left : ℕ) × Walking r self.now.add.now self.now.full_v.now
             self.now.pool.now t 1 left leave.ridx }
         ensures { Gathered self.now.full_v.now (met factor (length self.now.pool.now)
             self.now.add.now t (drop t self.now.pool.now) 1 leave.w leave.ridx) sums result }
@@ -124,7 +132,7 @@ impl Tables<'_> {
         leave: Drawn,
         sums: Totals,
     ) -> Totals
-        requires { Walking self.now.sizes.r self.now.add.now self.now.full_v.now
+        requires { (r : ℕ) × Walking r self.now.add.now self.now.full_v.now
             self.now.pool.now t remaining left leave.ridx }
         ensures { Gathered self.now.full_v.now (met factor (length self.now.pool.now)
             self.now.add.now t (drop t self.now.pool.now) remaining leave.w leave.ridx)

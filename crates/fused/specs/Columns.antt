@@ -7,3 +7,8 @@ pub record IsColumn (n lo len : ℕ) (add : List ℕ) (t : ℕ) (table : List �
   pub inside : (i : ℕ) → i < lo → from + i * step < length table
   pub same : (i : ℕ) → i < lo → slice_index table (from + i * step) ≡ up n add t i
   pub below : (i : ℕ) → i < lo → up n add t i < len
+
+-- a table letter by letter has a part of so many rows for each letter, with the ranks of the table by index
+pub record ByLetter (n lo : ℕ) (add table : List ℕ) : Type 0 where
+  pub rows : length table ≡ n * lo
+  pub same : (i t : ℕ) → i < lo → t < n → slice_index table (t * lo + i) ≡ up n add t i

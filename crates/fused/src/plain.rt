@@ -35,15 +35,15 @@ fn sum_of(numbers: &[f64]) -> f64
 impl<'a> Racks<'a> {
     /// What the racks from first on count for, and their ways, from the second place on.
     fn take_racks(&self, first: usize, values: &mut [f64], counts: &mut [f64])
-        requires { Taking self.now.ranks.sizes.leaves first (length self.now.ways.now)
+        requires { Taking self.now.sizes.leaves first (length self.now.ways.now)
             (length self.now.best.now) (length values.old) (length counts.old) }
-        ensures values { Taken (drawn_at self.now.ranks.sizes.leaves self.now.ways.now
+        ensures values { Taken (drawn_at self.now.sizes.leaves self.now.ways.now
             (clipped self.now.best.now)) first values.old values.new }
-        ensures counts { Taken (ways_at self.now.ranks.sizes.leaves self.now.ways.now) first
-            counts.old counts.new }
+        ensures counts { Taken (ways_at self.now.sizes.leaves self.now.ways.now) first counts.old
+            counts.new }
     {
         // Copies: what is behind a reference is read again after each write.
-        let lo = self.ranks.sizes.leaves;
+        let lo = self.sizes.leaves;
         let ways = self.ways;
         let best = self.best;
         // By index (N): two slices are written, from their second place on.
@@ -65,18 +65,18 @@ impl<'a> Racks<'a> {
         num: &mut [f64],
         den: &mut [f64],
     )
-        requires letters { length tally.now ≡ self.now.ranks.sizes.n }
-        requires leave { Leave (length tally.now) self.now.ranks.sizes.r
+        requires letters { length tally.now ≡ self.now.sizes.n }
+        requires leave { Leave (length tally.now) self.now.sizes.r
             (rank_of (length tally.now) tally.now) tally.now e.stop e.first }
         requires values { length values.old ≡ length tally.now - e.stop + 2 }
         requires counts { length counts.old ≡ length tally.now - e.stop + 2 }
         ensures num { num.new
-            ≡ leave_added (length tally.now) self.now.ranks.sizes.leaves self.now.ways.now
-            (drawn_at self.now.ranks.sizes.leaves self.now.ways.now (clipped self.now.best.now))
+            ≡ leave_added (length tally.now) self.now.sizes.leaves self.now.ways.now
+            (drawn_at self.now.sizes.leaves self.now.ways.now (clipped self.now.best.now))
             tally.now num.old }
         ensures den { den.new
-            ≡ leave_added (length tally.now) self.now.ranks.sizes.leaves self.now.ways.now
-            (ways_at self.now.ranks.sizes.leaves self.now.ways.now) tally.now den.old }
+            ≡ leave_added (length tally.now) self.now.sizes.leaves self.now.ways.now
+            (ways_at self.now.sizes.leaves self.now.ways.now) tally.now den.old }
     {
         self.take_racks(e.first, values, counts);
         let value = sum_of(&values[1..]);
@@ -101,16 +101,16 @@ impl<'a> Racks<'a> {
         num: &mut [f64],
         den: &mut [f64],
     )
-        requires letters { length tally.now ≡ self.now.ranks.sizes.n }
-        requires leave { Leave (length tally.now) self.now.ranks.sizes.r
+        requires letters { length tally.now ≡ self.now.sizes.n }
+        requires leave { Leave (length tally.now) self.now.sizes.r
             (rank_of (length tally.now) tally.now) tally.now e.stop e.first }
         ensures num { num.new
-            ≡ leave_added (length tally.now) self.now.ranks.sizes.leaves self.now.ways.now
-            (drawn_at self.now.ranks.sizes.leaves self.now.ways.now (clipped self.now.best.now))
+            ≡ leave_added (length tally.now) self.now.sizes.leaves self.now.ways.now
+            (drawn_at self.now.sizes.leaves self.now.ways.now (clipped self.now.best.now))
             tally.now num.old }
         ensures den { den.new
-            ≡ leave_added (length tally.now) self.now.ranks.sizes.leaves self.now.ways.now
-            (ways_at self.now.ranks.sizes.leaves self.now.ways.now) tally.now den.old }
+            ≡ leave_added (length tally.now) self.now.sizes.leaves self.now.ways.now
+            (ways_at self.now.sizes.leaves self.now.ways.now) tally.now den.old }
     {
         let k = e.racks(tally.len()) + 1;
         self.spread_leave(e, tally, &mut values[..k], &mut counts[..k], num, den);
@@ -118,16 +118,15 @@ impl<'a> Racks<'a> {
 
     /// Every leave of one tile less than a full rack, leave after leave, over a tally.
     pub fn spread_racks(&self, tally: &mut [u8], num: &mut [f64], den: &mut [f64])
-        requires { length tally.old ≡ self.now.ranks.sizes.n }
-        ensures num { num.new ≡ spread_all self.now.ranks.sizes.n self.now.ranks.sizes.r
-            self.now.ranks.sizes.leaves self.now.ways.now
-            (drawn_at self.now.ranks.sizes.leaves self.now.ways.now (clipped self.now.best.now))
-            num.old }
-        ensures den { den.new ≡ spread_all self.now.ranks.sizes.n self.now.ranks.sizes.r
-            self.now.ranks.sizes.leaves self.now.ways.now
-            (ways_at self.now.ranks.sizes.leaves self.now.ways.now) den.old }
+        requires { length tally.old ≡ self.now.sizes.n }
+        ensures num { num.new ≡ spread_all self.now.sizes.n self.now.sizes.r
+            self.now.sizes.leaves self.now.ways.now
+            (drawn_at self.now.sizes.leaves self.now.ways.now (clipped self.now.best.now)) num.old }
+        ensures den { den.new ≡ spread_all self.now.sizes.n self.now.sizes.r
+            self.now.sizes.leaves self.now.ways.now
+            (ways_at self.now.sizes.leaves self.now.ways.now) den.old }
     {
-        let sizes = self.ranks.sizes;
+        let sizes = self.sizes;
         let from = size_start(sizes.n, sizes.r - 1);
         // Memory of fixed size (C): the calls have no heap.
         let mut values = [0.0; 65];

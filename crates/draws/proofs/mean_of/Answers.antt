@@ -28,7 +28,7 @@ pub weight-requires : goal.weight-requires
 weight-requires c = few_drawn (passed c.args.tables c.requires)
 
 pub aggregate-sums-requires : goal.aggregate-sums-requires
-aggregate-sums-requires c = walking (passed c.args.tables c.requires) c.tiles_in-tiles.ensures
+aggregate-sums-requires c = (c.args.tables.sizes.r, walking (passed c.args.tables c.requires) c.tiles_in-tiles.ensures)
 
 pub within_limit-requires : goal.within_limit-requires
 within_limit-requires c = omega (arith, most_some (passed c.args.tables c.requires) _ _ _ one_literal zero_literal zero_literal c.aggregate-sums.ensures)

@@ -3,6 +3,7 @@ use Rattle.std.proofs.Common.{refl, sym, ◌∙◌, length-take-le}
 use Rattle.lattice.specs.Served.{facts}
 use Rattle.fused.specs.Fuse.{pool_fits, deals_after, racks_full, fold_after, spread_after}
 use Rattle.fused.proofs.Judges.{whole}
+use Rattle.fused.proofs.Laws.{judged_by_index, judged_by_letter}
 use Rattle.fused.proofs.fuse.fuse.Goals as goal
 
 pub deal_racks-requires : goal.deal_racks-requires
@@ -12,18 +13,19 @@ pub fill_bests-requires : goal.fill_bests-requires
 fill_bests-requires c =
     record { room = c.requires.lengths.in_maxsheet; sound = c.requires.sound; ways = deals_after c.requires c.deal_racks.ensures }
 
-pub invariant_of-racks : goal.invariant_of-racks
-invariant_of-racks c =
+pub invariant_of-supersets : goal.invariant_of-supersets
+invariant_of-supersets c =
     let p = c.requires in
-    let s = c.args.ranks.now.sizes in
+    let t = c.args.ranks.now in
     let b = c.fill_bests.ensures in
     record {
-      bests = b.long ∙ p.lengths.in_maxsheet ∙ sym (whole s);
-      full = racks_full p s.starts (deals_after p c.deal_racks.ensures) b;
+      by_index = judged_by_index t.sizes.starts t.by_index (b.long ∙ p.lengths.in_maxsheet);
+      letter_by_letter = λ letters e. judged_by_letter t.sizes.starts t.by_index (t.letter_by_letter letters e);
+      full = racks_full p t.sizes.starts (deals_after p c.deal_racks.ensures) b;
     }
 
-pub invariant_of-racks-else-board : goal.invariant_of-racks-else-board
-invariant_of-racks-else-board c =
+pub invariant_of-racks : goal.invariant_of-racks
+invariant_of-racks c =
     let p = c.requires in
     let s = c.args.ranks.now.sizes in
     let b = c.fill_bests.ensures in

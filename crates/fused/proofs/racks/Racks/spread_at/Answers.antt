@@ -8,7 +8,7 @@ use Rattle.fused.proofs.racks.Racks.spread_at.Goals as goal
 few : (c : goal.After-racks-k) → c.racks-k.result + 1 ≤ 65
 few c =
     let a = c.args.self.now in
-    let h = leave_stop (spreading_of a.ranks.sizes c.requires.letters a.bests a.full).sizes c.requires.leave in
+    let h = leave_stop (spreading_of a.sizes c.requires.letters a.bests a.full).sizes c.requires.leave in
     omega (arith, c.racks-k.ensures, h.0, h.1, h.2)
 
 pub slice_bounds-spread_leave-end-2 : goal.slice_bounds-spread_leave-end-2

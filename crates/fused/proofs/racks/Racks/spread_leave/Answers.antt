@@ -8,14 +8,14 @@ pub take_racks-requires : goal.take_racks-requires
 take_racks-requires c =
     let p = c.requires in
     let a = c.args.self.now in
-    taking (spreading_of a.ranks.sizes p.letters a.bests a.full) p.leave p.values p.counts
+    taking (spreading_of a.sizes p.letters a.bests a.full) p.leave p.values p.counts
 
 pub spread-requires : goal.spread-requires
 spread-requires c =
     let a = c.args.self.now in
     let p = c.requires in
     let t = c.take_racks.ensures in
-    record { spreads = spreads (spreading_of a.ranks.sizes p.letters a.bests a.full).sizes p.leave (summed_long _ t.values p.values); same = summed_long _ t.counts p.counts ∙ sym (summed_long _ t.values p.values) }
+    record { spreads = spreads (spreading_of a.sizes p.letters a.bests a.full).sizes p.leave (summed_long _ t.values p.values); same = summed_long _ t.counts p.counts ∙ sym (summed_long _ t.values p.values) }
 
 pub returns-then-count : goal.returns-then-count
 returns-then-count c =
@@ -28,8 +28,8 @@ returns-then-count c =
     let taken = c.if-count.true in
     let e = c.spread.ensures in
     record {
-      num = leave_done n a.self.now.ranks.sizes.leaves a.self.now.ways.now (drawn_at a.self.now.ranks.sizes.leaves a.self.now.ways.now (clipped a.self.now.best.now)) p.leave t.counts p.counts w taken t.values p.values v a.num.now e.num;
-      den = leave_done n a.self.now.ranks.sizes.leaves a.self.now.ways.now (ways_at a.self.now.ranks.sizes.leaves a.self.now.ways.now) p.leave t.counts p.counts w taken t.counts p.counts w a.den.now e.den;
+      num = leave_done n a.self.now.sizes.leaves a.self.now.ways.now (drawn_at a.self.now.sizes.leaves a.self.now.ways.now (clipped a.self.now.best.now)) p.leave t.counts p.counts w taken t.values p.values v a.num.now e.num;
+      den = leave_done n a.self.now.sizes.leaves a.self.now.ways.now (ways_at a.self.now.sizes.leaves a.self.now.ways.now) p.leave t.counts p.counts w taken t.counts p.counts w a.den.now e.den;
     }
 
 pub returns-else-count : goal.returns-else-count
@@ -41,6 +41,6 @@ returns-else-count c =
     let w = c.sum_of-count.ensures ∙ rest_summed c.take_racks.new.counts in
     let left = c.if-count.false in
     record {
-      num = leave_left n a.self.now.ranks.sizes.leaves a.self.now.ways.now (drawn_at a.self.now.ranks.sizes.leaves a.self.now.ways.now (clipped a.self.now.best.now)) p.leave t.counts p.counts w left a.num.now;
-      den = leave_left n a.self.now.ranks.sizes.leaves a.self.now.ways.now (ways_at a.self.now.ranks.sizes.leaves a.self.now.ways.now) p.leave t.counts p.counts w left a.den.now;
+      num = leave_left n a.self.now.sizes.leaves a.self.now.ways.now (drawn_at a.self.now.sizes.leaves a.self.now.ways.now (clipped a.self.now.best.now)) p.leave t.counts p.counts w left a.num.now;
+      den = leave_left n a.self.now.sizes.leaves a.self.now.ways.now (ways_at a.self.now.sizes.leaves a.self.now.ways.now) p.leave t.counts p.counts w left a.den.now;
     }

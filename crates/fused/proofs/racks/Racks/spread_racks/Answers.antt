@@ -11,8 +11,8 @@ use Rattle.fused.proofs.Laws.{leave_own, leave_read, spreading_of}
 use Rattle.fused.proofs.racks.Racks.spread_racks.Goals.{Start}
 use Rattle.fused.proofs.racks.Racks.spread_racks.Goals as goal
 
-sizes : (c : goal.Start) → Served c.args.self.now.ranks.sizes.n c.args.self.now.ranks.sizes.r
-sizes c = facts c.args.self.now.ranks.sizes.n c.args.self.now.ranks.sizes.r c.args.self.now.ranks.sizes.is_served
+sizes : (c : goal.Start) → Served c.args.self.now.sizes.n c.args.self.now.sizes.r
+sizes c = facts c.args.self.now.sizes.n c.args.self.now.sizes.r c.args.self.now.sizes.is_served
 
 pub overflow_sub-sizes : goal.overflow_sub-sizes
 overflow_sub-sizes c = (sizes (goal.at.overflow_sub-sizes c).Start).some_tile
@@ -24,7 +24,7 @@ size_start-from-requires c =
 
 pub extend_at-e-requires : goal.extend_at-e-requires
 extend_at-e-requires c =
-    let s = c.args.self.now.ranks.sizes in
+    let s = c.args.self.now.sizes in
     let from = c.size_start-from.ensures in
     rw c.requires
     (record { served = s.is_served; from = omega (arith, from); below = omega (arith, from, some_leave s.n s.r s.is_served) })
@@ -32,7 +32,7 @@ extend_at-e-requires c =
 pub loop-init : goal.loop-init
 loop-init c =
     let a = c.args.self.now in
-    let s = a.ranks.sizes in
+    let s = a.sizes in
     let first = subst (λ (k : ℕ). Leave k s.r c.size_start-from.result c.extend_at-e.new.tally c.extend_at-e.result.stop c.extend_at-e.result.first) c.requires c.extend_at-e.ensures.leave in
     let none : c.size_start-from.result - c.size_start-from.result ≡ 0 = omega arith in
     record {
@@ -47,7 +47,7 @@ loop-init c =
 
 pub spread_at-requires : goal.spread_at-requires
 spread_at-requires c =
-    let s = c.args.self.now.ranks.sizes in
+    let s = c.args.self.now.sizes in
     let l = c.loop in
     let at = l.invariant.reached in
     record {
@@ -57,14 +57,14 @@ spread_at-requires c =
 
 pub next_leave-e-requires : goal.next_leave-e-requires
 next_leave-e-requires c =
-    let s = c.args.self.now.ranks.sizes in
+    let s = c.args.self.now.sizes in
     let w = reached_walks c.loop.invariant.reached (omega (arith, c.loop-test.true, s.starts)) s.is_served in
     record { walking = w.0; word = w.1 }
 
 pub loop-preserved : goal.loop-preserved
 loop-preserved c =
     let a = c.args in
-    let s = a.self.now.ranks.sizes in
+    let s = a.self.now.sizes in
     let l = c.loop in
     let v = c.spread_at.ensures in
     let next = c.next_leave-e.ensures in

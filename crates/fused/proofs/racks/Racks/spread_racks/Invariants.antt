@@ -8,7 +8,7 @@ use Rattle.fused.proofs.racks.Racks.spread_racks.Given as goal
 
 abbrev pub invariant-loop : goal.invariant-loop
 invariant-loop l =
-    let s = l.self.ranks.sizes in
+    let s = l.self.sizes in
     record {
       inside : l.counter ≤ s.leaves;
       begun : l.from ≤ l.counter;

@@ -16,6 +16,6 @@ loop-j-preserved c =
     let v = c.rack_value.ensures in
     let b = place_best a.self.now.best.now (a.first + l.j) (omega (arith, p.inside, p.full)) in (
       omega (arith, taken),
-      taken_more l.invariant.1 (omega (arith, taken, l.invariant.1.long)) (v ∙ ap (drawn_value (ways_at a.self.now.ranks.sizes.leaves a.self.now.ways.now (a.first + l.j))) b),
+      taken_more l.invariant.1 (omega (arith, taken, l.invariant.1.long)) (v ∙ ap (drawn_value (ways_at a.self.now.sizes.leaves a.self.now.ways.now (a.first + l.j))) b),
       taken_more l.invariant.2 (omega (arith, taken, l.invariant.2.long, p.same)) refl,
     )

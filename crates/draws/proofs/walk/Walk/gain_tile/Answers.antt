@@ -1,11 +1,11 @@
--- `draws::walk::Tables::gain_tile` meets its contract. Assumes nothing.
+-- `draws::walk::Walk::gain_tile` meets its contract. Assumes nothing.
 use mathlib.Core.Path.{sym, ◌∙◌, subst}
 use Prim.Native.Nat.{ℕ}
 use lib.ListN.{length}
 use Rattle.whole.proofs.Steps.{one_literal}
 use Rattle.draws.specs.Walk.{met_tile, Gathered}
 use Rattle.draws.specs.Walking.{tile_none, tile_some}
-use Rattle.draws.proofs.walk.Tables.gain_tile.Goals as goal
+use Rattle.draws.proofs.walk.Walk.gain_tile.Goals as goal
 
 pub returns-then-count-eq0 : goal.returns-then-count-eq0
 returns-then-count-eq0 c =

@@ -2,7 +2,7 @@
 -- of the turns so far, and binom and ridx are the binomial and the rank of as many tiles. Assumes nothing.
 use Rattle.std.proofs.Common.{◌≡◌, suc, ◌-◌, ◌≤◌, length, drop}
 use Rattle.draws.specs.Walk.{running, factor, climb, met_to, Gathered}
-use Rattle.draws.proofs.walk.Tables.+aggregate.Given as goal
+use Rattle.draws.proofs.walk.Walk.+aggregate.Given as goal
 
 abbrev pub decreases-aggregate : goal.decreases-aggregate
 decreases-aggregate l = length l.self.now.pool.now - l.t

@@ -4,14 +4,14 @@ use Rattle.laws.specs.Loops.{descend}
 use Rattle.sums.specs.Folds.{gained_f, sum_pass_f}
 use Rattle.lattice.specs.Tables.{up}
 use Rattle.fused.specs.Zeta.{clipped, gained_w, sum_pass_w}
-use Rattle.fused.proofs.racks.Racks.gain_letter.Given as goal
+use Rattle.fused.proofs.zeta.Supersets.gain_letter.Given as goal
 
 abbrev pub invariant-loop-idx : goal.invariant-loop-idx
 invariant-loop-idx l =
-    let s = l.self.ranks.sizes in
-    let to : ℕ → ℕ = up s.n l.self.ranks.add.now l.t in
-    let ways = l.self.ways.now in
-    let best = clipped l.self.best.now in
+    let s = l.self in
+    let to : ℕ → ℕ = up s.n s.add.now l.t in
+    let ways = s.ways.now in
+    let best = clipped s.best.now in
     record {
       nums : length l.num ≡ length l.initial.num;
       dens : length l.den ≡ length l.initial.den;

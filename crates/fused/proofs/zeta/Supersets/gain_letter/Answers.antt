@@ -4,19 +4,18 @@ use Rattle.laws.specs.Loops.{descend_more}
 use Rattle.lattice.specs.Tables.{up}
 use Rattle.sums.specs.Folds.{gained_f}
 use Rattle.fused.specs.Zeta.{clipped, gained_w}
-use Rattle.fused.proofs.racks.Racks.gain_letter.Goals as goal
+use Rattle.fused.proofs.zeta.Supersets.gain_letter.Goals as goal
 
 pub loop-idx-preserved : goal.loop-idx-preserved
 loop-idx-preserved c =
-    let a = c.args.self.now in
-    let s = a.ranks.sizes in
+    let s = c.args.self.now in
     let l = c.loop-idx in
     let left = c.loop-idx-test.true in
     let below : l.idx - 1 < s.leaves = omega arith in
     let at = c.column_of-column.ensures.same (l.idx - 1) below in
-    let to : ℕ → ℕ = up s.n a.ranks.add.now c.args.t in
-    let f : ℕ → ℕ → List Float → List Float = gained_f s.leaves a.ways.now (clipped a.best.now) in
-    let w : ℕ → ℕ → List Float → List Float = gained_w s.leaves a.ways.now in
+    let to : ℕ → ℕ = up s.n s.add.now c.args.t in
+    let f : ℕ → ℕ → List Float → List Float = gained_f s.leaves s.ways.now (clipped s.best.now) in
+    let w : ℕ → ℕ → List Float → List Float = gained_w s.leaves s.ways.now in
     let p = c.gain.ensures in
     record {
       nums = c.gain.auto.num ∙ l.invariant.nums;

@@ -1,4 +1,4 @@
--- `draws::walk::Tables::gain` meets its contract. Assumes nothing.
+-- `draws::walk::Walk::gain` meets its contract. Assumes nothing.
 use mathlib.Core.Path.{◌≡◌, ap, ap₂, ◌∙◌}
 use Prim.Native.Nat.{ℕ, max}
 use lib.IntN.{ℤ, nat_abs}
@@ -12,7 +12,7 @@ use Rattle.whole.specs.Whole.{whole}
 use Rattle.draws.specs.Walk.{totals, gathered_one}
 use Rattle.draws.specs.Walk as Walk
 use Rattle.draws.specs.Walk.{factor, met, met_tile, Gathered}
-use Rattle.draws.proofs.walk.Tables.gain.Goals as goal
+use Rattle.draws.proofs.walk.Walk.gain.Goals as goal
 
 pub returns : goal.returns
 unfolding Walk.gain
