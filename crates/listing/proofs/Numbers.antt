@@ -11,6 +11,7 @@ use Rattle.listing.specs.declared.form.Taken.{Taken}
 use Rattle.listing.specs.declared.form.Taken.TheVariants.{Nothing, Letters, Sizes as Sized}
 use Rattle.listing.specs.Sizes.{cells_of, cells_served}
 use Rattle.listing.specs.Fits.{AreBytes, AreEntries}
+use Rattle.listing.specs.Slots.{items_of}
 use Rattle.listing.specs.Reading.{below, entry, Body, with_count, with_entry, body, refusal, given, accepted, judge, sized, reading_of, whole, IsRefusedAfter}
 use Rattle.listing.specs.Taken.{form_numbers, numbers_of}
 
@@ -80,20 +81,20 @@ sized_rest n r some_cells rest =
     go zero h = absurd (omega arith)
     go (suc k) h = refl
 
-module _ (f : Form) (c v : ℕ) (counts : length f.pool.items + c ≡ f.n) (values : length f.entries.items + v ≡ f.cells * 2) where
+module _ (f : Form) (c v : ℕ) (counts : length (items_of f.pool) + c ≡ f.n) (values : length (items_of f.entries) + v ≡ f.cells * 2) where
   -- what follows a form's numbers
-  follows : (zs : List (Option ℤ)) → reading_of (whole (form_numbers f) ++ zs) ≡ accepted f.n f.r (with_counts f.pool.items (with_entries f.entries.items (body c v zs)))
+  follows : (zs : List (Option ℤ)) → reading_of (whole (form_numbers f) ++ zs) ≡ accepted f.n f.r (with_counts (items_of f.pool) (with_entries (items_of f.entries) (body c v zs)))
   unfolding form_numbers with_entries
   follows zs =
-      sized_rest f.n f.r (omega (arith, f.sized, f.served)) (whole (map pos f.pool.items ++ f.entries.items) ++ zs)
+      sized_rest f.n f.r (omega (arith, f.sized, f.served)) (whole (map pos (items_of f.pool) ++ items_of f.entries) ++ zs)
       ∙ ap (accepted f.n f.r) (
       ap₂ (λ (k : ℕ) (rest : List (Option ℤ)). body f.n k rest) (ap (λ (k : ℕ). k * 2) (sym f.sized)) regroup
-      ∙ counts_then f.pool.items f.bytes f.n c (f.cells * 2) counts (whole f.entries.items ++ zs)
-      ∙ ap (with_counts f.pool.items) (go c f.entries.items (λ h. f.in_order (omega arith)) f.words values)
+      ∙ counts_then (items_of f.pool) f.bytes f.n c (f.cells * 2) counts (whole (items_of f.entries) ++ zs)
+      ∙ ap (with_counts (items_of f.pool)) (go c (items_of f.entries) (λ h. f.in_order (omega arith)) f.words values)
       )
     where
-      regroup : whole (map pos f.pool.items ++ f.entries.items) ++ zs ≡ whole (map pos f.pool.items) ++ (whole f.entries.items ++ zs)
-      regroup = ap (◌++ zs) (map-append some (map pos f.pool.items) f.entries.items) ∙ append_assoc (whole (map pos f.pool.items)) (whole f.entries.items) zs
+      regroup : whole (map pos (items_of f.pool) ++ items_of f.entries) ++ zs ≡ whole (map pos (items_of f.pool)) ++ (whole (items_of f.entries) ++ zs)
+      regroup = ap (◌++ zs) (map-append some (map pos (items_of f.pool)) (items_of f.entries)) ∙ append_assoc (whole (map pos (items_of f.pool))) (whole (items_of f.entries)) zs
 
       -- while a count is missing there is no entry
       go : (c : ℕ) (es : List ℤ) → (0 < c → length es ≡ 0) → AreEntries es → length es + v ≡ f.cells * 2
@@ -120,11 +121,11 @@ module _ (z : Option ℤ) where
 
   module _ (f : Form) where
     -- where what follows is no body
-    lost : (c v : ℕ) → length f.pool.items + c ≡ f.n → length f.entries.items + v ≡ f.cells * 2 → (zs : List (Option ℤ)) → body c v zs ≡ none
+    lost : (c v : ℕ) → length (items_of f.pool) + c ≡ f.n → length (items_of f.entries) + v ≡ f.cells * 2 → (zs : List (Option ℤ)) → body c v zs ≡ none
         → reading_of (whole (form_numbers f) ++ zs) ≡ refusal Length
     lost c v counts values zs e =
         follows f c v counts values zs
-        ∙ ap (accepted f.n f.r) (ap (λ (ob : Option Body). with_counts f.pool.items (with_entries f.entries.items ob)) e ∙ ap (with_counts f.pool.items) (entries_none f.entries.items) ∙ counts_none f.pool.items)
+        ∙ ap (accepted f.n f.r) (ap (λ (ob : Option Body). with_counts (items_of f.pool) (with_entries (items_of f.entries) ob)) e ∙ ap (with_counts (items_of f.pool)) (entries_none (items_of f.entries)) ∙ counts_none (items_of f.pool))
 
     body_count : (c v : ℕ) (rest : List (Option ℤ)) → 0 < c → below (2 ^ 8) z ≡ none → body c v (z ∷ rest) ≡ none
     unfolding body
@@ -136,18 +137,18 @@ module _ (z : Option ℤ) where
     body_entry zero rest bad = refl
     body_entry (suc v) rest bad = ap (λ (o : Option ℤ). with_entry o (body 0 v rest)) bad
 
-    pub count_refused : length f.pool.items < f.n → below (2 ^ 8) z ≡ none → IsRefusedAfter (form_numbers f) z Length
+    pub count_refused : length (items_of f.pool) < f.n → below (2 ^ 8) z ≡ none → IsRefusedAfter (form_numbers f) z Length
     count_refused more bad rest =
-        let c = f.n - length f.pool.items in
-        let v = f.cells * 2 - length f.entries.items in
+        let c = f.n - length (items_of f.pool) in
+        let v = f.cells * 2 - length (items_of f.entries) in
         lost c v (omega (arith, f.counts)) (omega (arith, f.values)) (z ∷ rest) (body_count c v rest (omega arith) bad)
 
-    pub entry_refused : f.n ≤ length f.pool.items → entry z ≡ none → IsRefusedAfter (form_numbers f) z Length
+    pub entry_refused : f.n ≤ length (items_of f.pool) → entry z ≡ none → IsRefusedAfter (form_numbers f) z Length
     entry_refused full bad rest =
-        let v = f.cells * 2 - length f.entries.items in
+        let v = f.cells * 2 - length (items_of f.entries) in
         lost 0 v (omega (arith, f.counts)) (omega (arith, f.values)) (z ∷ rest) (body_entry v rest bad)
 
-    pub extra_refused : f.n ≤ length f.pool.items → f.cells * 2 ≤ length f.entries.items → IsRefusedAfter (form_numbers f) z Length
+    pub extra_refused : f.n ≤ length (items_of f.pool) → f.cells * 2 ≤ length (items_of f.entries) → IsRefusedAfter (form_numbers f) z Length
     unfolding body
     extra_refused full over rest = lost 0 0 (omega (arith, f.counts)) (omega (arith, f.values)) (z ∷ rest) refl
 
@@ -161,9 +162,9 @@ pub malformed_refused : (t : Taken) → IsRefusedAfter (numbers_of t) none Lengt
 unfolding numbers_of
 malformed_refused Nothing = first_refused none refl
 malformed_refused (Letters n) = second_refused none n refl
-malformed_refused (Sized f) = go (dec_le f.n (length f.pool.items))
+malformed_refused (Sized f) = go (dec_le f.n (length (items_of f.pool)))
   where
-    go : Dec (f.n ≤ length f.pool.items) → IsRefusedAfter (form_numbers f) none Length
+    go : Dec (f.n ≤ length (items_of f.pool)) → IsRefusedAfter (form_numbers f) none Length
     go (yes full) = entry_refused none f full refl
     go (no not) = count_refused none f (omega arith) refl
 
@@ -178,16 +179,16 @@ unfolding reading_of
 one_read z = refl
 
 module _ (f : Form) where
-  ended : (c v : ℕ) → length f.pool.items + c ≡ f.n → length f.entries.items + v ≡ f.cells * 2
-      → reading_of (whole (form_numbers f)) ≡ accepted f.n f.r (with_counts f.pool.items (with_entries f.entries.items (body c v [])))
+  ended : (c v : ℕ) → length (items_of f.pool) + c ≡ f.n → length (items_of f.entries) + v ≡ f.cells * 2
+      → reading_of (whole (form_numbers f)) ≡ accepted f.n f.r (with_counts (items_of f.pool) (with_entries (items_of f.entries) (body c v [])))
   ended c v counts values = ap reading_of (sym (append-nil (whole (form_numbers f)))) ∙ follows f c v counts values []
 
   -- a number is missing
-  pub form_lacks : length f.pool.items + length f.entries.items < f.n + f.cells * 2 → reading_of (whole (form_numbers f)) ≡ refusal Length
+  pub form_lacks : length (items_of f.pool) + length (items_of f.entries) < f.n + f.cells * 2 → reading_of (whole (form_numbers f)) ≡ refusal Length
   unfolding body
   form_lacks less =
-      let c = f.n - length f.pool.items in
-      let v = f.cells * 2 - length f.entries.items in
+      let c = f.n - length (items_of f.pool) in
+      let v = f.cells * 2 - length (items_of f.entries) in
       ap reading_of (sym (append-nil (whole (form_numbers f)))) ∙ lost none f c v (omega (arith, f.counts)) (omega (arith, f.values)) [] (go c v (omega (arith, f.counts, f.values)))
     where
       go : (c v : ℕ) → 0 < c + v → body c v [] ≡ none
@@ -196,14 +197,14 @@ module _ (f : Form) where
       go (suc c) v h = refl
 
   -- and none is
-  pub form_full : f.n ≤ length f.pool.items → f.cells * 2 ≤ length f.entries.items
-      → reading_of (whole (form_numbers f)) ≡ given f.n f.r (record { pool = f.pool.items; entries = f.entries.items })
+  pub form_full : f.n ≤ length (items_of f.pool) → f.cells * 2 ≤ length (items_of f.entries)
+      → reading_of (whole (form_numbers f)) ≡ given f.n f.r (record { pool = items_of f.pool; entries = items_of f.entries })
   unfolding body
   form_full all_counts all_entries =
       let b : Body = record { pool = []; entries = [] } in
       ended 0 0 (omega (arith, f.counts)) (omega (arith, f.values))
       ∙ ap (accepted f.n f.r) (
-      ap (with_counts f.pool.items) (entries_some f.entries.items b)
-      ∙ counts_some f.pool.items (record { pool = []; entries = f.entries.items ++ [] })
-      ∙ ap₂ (λ (xs : List ℕ) (es : List ℤ). some (record { pool = xs; entries = es })) (append-nil f.pool.items) (append-nil f.entries.items)
+      ap (with_counts (items_of f.pool)) (entries_some (items_of f.entries) b)
+      ∙ counts_some (items_of f.pool) (record { pool = []; entries = items_of f.entries ++ [] })
+      ∙ ap₂ (λ (xs : List ℕ) (es : List ℤ). some (record { pool = xs; entries = es })) (append-nil (items_of f.pool)) (append-nil (items_of f.entries))
       )

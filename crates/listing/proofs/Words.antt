@@ -14,7 +14,7 @@ use Rattle.text.proofs.Joining.{handed_words, given-append}
 use Rattle.listing.specs.declared.session.Session.{Session}
 use Rattle.listing.specs.Sizes.{cells_of}
 use Rattle.listing.specs.Reading.{below, entry, with_count, with_entry, body, accepted, judge, sized, reading_of, reading, refusal, whole, IsRefusedAfter, IsRefused}
-use Rattle.listing.specs.Taken.{numbers_of, SoFar}
+use Rattle.listing.specs.Taken.{numbers_of, Accepting, SoFar}
 use Rattle.listing.proofs.Numbers.{malformed_refused}
 
 -- a token's number, where it is one of at most 64 bits
@@ -112,11 +112,11 @@ said_at r b = go (is_blank b)
     go true = append-nil (said (ended_of r))
     go false = refl
 
-pub so_far_none : {s : Session} → s.reader ≡ Between → numbers_of s.taken ≡ [] → SoFar [] s
+pub so_far_none : {s : Session} → s.reader ≡ Between → numbers_of s.taken ≡ [] → Accepting [] s
 unfolding handed_by
 so_far_none {s} e f = record { state = e; numbers = sym (ap (map Ok) f) }
 
-module _ {text : List ℕ} {s : Session} (so_far : SoFar text s) where
+module _ {text : List ℕ} {s : Session} (so_far : Accepting text s) where
   -- what the reader gave up to a byte more
   given_next : (b : ℕ) → handed_by Between (text ++ (b ∷ [])) ≡ map Ok (numbers_of s.taken) ++ said (at_byte s.reader b)
   given_next b =
@@ -125,7 +125,7 @@ module _ {text : List ℕ} {s : Session} (so_far : SoFar text s) where
 
   -- a byte more, after which these numbers more were taken
   so_far_next : {s' : Session} (b : ℕ) (zs : List ℤ) → s'.reader ≡ step_of s.reader b → said (at_byte s.reader b) ≡ map Ok zs
-      → numbers_of s'.taken ≡ numbers_of s.taken ++ zs → SoFar (text ++ (b ∷ [])) s'
+      → numbers_of s'.taken ≡ numbers_of s.taken ++ zs → Accepting (text ++ (b ∷ [])) s'
   so_far_next b zs e f g =
       record {
         state = e ∙ ap (λ (r : Reader). step_of r b) so_far.state ∙ sym (foldl-append step_of Between text (b ∷ []));
@@ -166,11 +166,11 @@ module _ {text : List ℕ} {s : Session} (so_far : SoFar text s) where
 
   -- ---- a byte more: no token ends, or one does that is a number, or none
   module _ (b : ℕ) {w : Result (Maybe ℤ) Malformed} (gives : w ≡ at_byte s.reader b) where
-    pub next_none : {s' : Session} → w ≡ Ok None → s'.reader ≡ step_of s.reader b → s'.taken ≡ s.taken → SoFar (text ++ (b ∷ [])) s'
+    pub next_none : {s' : Session} → w ≡ Ok None → s'.reader ≡ step_of s.reader b → s'.taken ≡ s.taken → Accepting (text ++ (b ∷ [])) s'
     next_none is e f = so_far_next b [] e (ap said (sym gives ∙ is)) (ap numbers_of f ∙ sym (append-nil (numbers_of s.taken)))
 
     pub next_number : {A : Type 0} (s' : Session) {z : ℤ} (r : Result A Refusal) → w ≡ Ok (Some z) → s'.reader ≡ step_of s.reader b
-        → OnOk r (numbers_of s'.taken ≡ numbers_of s.taken ++ (z ∷ [])) → OnOk r (SoFar (text ++ (b ∷ [])) s')
+        → OnOk r (numbers_of s'.taken ≡ numbers_of s.taken ++ (z ∷ [])) → OnOk r (Accepting (text ++ (b ∷ [])) s')
     next_number s' {z = z} (Ok x) is e f = so_far_next b (z ∷ []) e (ap said (sym gives ∙ is)) f
     next_number s' (Err e) is _ _ = tt
 
@@ -206,3 +206,22 @@ refused_in text bytes i {e} h not =
   where
     split : ((text ++ take i bytes) ++ (get_or bytes i 0 ∷ [])) ++ drop (suc i) bytes ≡ text ++ bytes
     split = simp append_assoc (ap (text ++◌) (ap (take i bytes ++◌) (sym (drop-cons bytes i 0 h)) ∙ take-append-drop i bytes))
+
+-- ---- a session, and the refusal that it keeps
+
+pub accepting : {text : List ℕ} {s : Session} → s.standing ≡ Ok tt → SoFar text s → Accepting text s
+accepting {text} {s} is so_far = go s.standing is so_far.accepting
+  where
+    go : (r : Result (Unit {0}) Refusal) → r ≡ Ok tt → OnOk r (Accepting text s) → Accepting text s
+    go (Ok x) is a = a
+    go (Err e) is a = cc
+
+pub refused : {text : List ℕ} {s : Session} {e : Refusal} → s.standing ≡ Err e → SoFar text s → IsRefused text e
+refused {text} {s} {e} is so_far = go s.standing is so_far.refused
+  where
+    go : (r : Result (Unit {0}) Refusal) → r ≡ Err e → IfErr r (IsRefused text) → IsRefused text e
+    go (Ok x) is not = cc
+    go (Err k) is not = let same : k ≡ e = cc in subst (IsRefused text) same not
+
+pub so_far_refused : {text : List ℕ} {s : Session} {e : Refusal} → s.standing ≡ Err e → IsRefused text e → SoFar text s
+so_far_refused is not = record { accepting = rw is tt; refused = rw is not }

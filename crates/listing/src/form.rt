@@ -1,13 +1,14 @@
 //! The numbers of a listing's text: two sizes, then pool counts, then entries of sheet and leave.
 
 ghost use Rattle.std.specs.Prelude.{◌≡◌, ℕ, ◌+◌, ◌*◌, ◌<◌, ◌≤◌, List, [], ◌∷◌, ◌++◌, length, pos};
-ghost use Rattle.std.specs.Prelude.{IfOk, IfErr, OnOk};
+ghost use Rattle.std.specs.Prelude.{IfOk, IfErr, OnErr, OnOk};
 ghost use Rattle.std.proofs.Math.Option.{some};
 ghost use Rattle.listing.specs.Sizes.{cells_of};
 ghost use Rattle.listing.specs.Fits.{AreBytes, AreEntries};
+ghost use Rattle.listing.specs.Slots.{items_of};
 
 use crate::board::{Board, CELLS, cells};
-use arrayvec::ArrayVec;
+use crate::slots::Slots;
 use refusal::Refusal;
 
 // (C): both buffers are fixed memory, since the listing takes no heap.
@@ -18,7 +19,7 @@ pub const LETTERS: usize = 64;
 pub const ENTRIES: usize = 2 * CELLS;
 
 /// What is taken of a text that may still be accepted.
-#[derive(Drop)]
+#[derive(Clone, Copy)]
 pub enum Taken {
     /// No number: the number of letters comes first.
     Nothing,
@@ -30,43 +31,44 @@ pub enum Taken {
 
 /// Sizes that the listing serves, and what is taken after them: pool counts first, and then
 /// entries of sheet and of leave.
-#[derive(Drop)]
+#[derive(Clone, Copy)]
 pub struct Form {
     pub n: usize,
     pub r: usize,
     /// How many entries sheet and leave have each.
     pub cells: usize,
-    pub pool: ArrayVec<u8, LETTERS>,
-    pub entries: ArrayVec<i32, ENTRIES>,
+    pub pool: Slots<u8, LETTERS>,
+    pub entries: Slots<i32, ENTRIES>,
     pub ghost sized: { cells ≡ cells_of n r },
     pub ghost served: { 0 < cells },
     pub ghost few: { cells ≤ 512 },
     pub ghost letters: { n ≤ 64 },
-    pub ghost counts: { length pool.items ≤ n },
-    pub ghost values: { length entries.items ≤ cells * 2 },
-    pub ghost in_order: { length pool.items < n → length entries.items ≡ 0 },
-    pub ghost bytes: { AreBytes pool.items },
-    pub ghost words: { AreEntries entries.items },
+    pub ghost counts: { length (items_of pool) ≤ n },
+    pub ghost values: { length (items_of entries) ≤ cells * 2 },
+    pub ghost in_order: { length (items_of pool) < n → length (items_of entries) ≡ 0 },
+    pub ghost bytes: { AreBytes (items_of pool) },
+    pub ghost words: { AreEntries (items_of entries) },
 }
 
 /// All that a text gives: sizes that the listing serves, a count for each letter, and the entries
 /// of sheet and then of leave.
-#[derive(Drop)]
+#[derive(Clone, Copy)]
 pub struct Given {
     pub form: Form,
-    pub ghost counts: { length form.pool.items ≡ form.n },
-    pub ghost values: { length form.entries.items ≡ form.cells * 2 },
+    pub ghost counts: { length (items_of form.pool) ≡ form.n },
+    pub ghost values: { length (items_of form.entries) ≡ form.cells * 2 },
 }
 
 impl Taken {
     ghost use Rattle.listing.specs.Reading.{reading_of, whole, IsRefusedAfter};
     ghost use Rattle.listing.specs.Taken.{numbers_of, reading_as};
 
-    /// Takes one whole number more. What is refused is refused whatever follows.
+    /// Takes one whole number more. What is refused is refused whatever follows, and is not taken.
     #[tactic(auto, using(crate::proofs::Numbers::first_refused, crate::proofs::Numbers::second_refused), unfolding(crate::specs::Taken::numbers_of))]
     pub fn take(&mut self, number: i128) -> Result<(), Refusal>
         ensures ok { OnOk result (numbers_of self.new ≡ numbers_of self.old ++ number ∷ []) }
         ensures err { IfErr result (IsRefusedAfter (numbers_of self.old) (some number)) }
+        ensures stays { OnErr result (self.new ≡ self.old) }
     {
         match self {
             Taken::Nothing => *self = Taken::Letters(fitting(number)?),
@@ -102,16 +104,18 @@ impl Form {
             n,
             r,
             cells: cells(n, r)?,
-            pool: ArrayVec::new(),
-            entries: ArrayVec::new(),
+            pool: Slots::new(),
+            entries: Slots::new(),
         })
     }
 
     /// Takes one whole number more: a pool count where a letter has none yet, and else an entry.
+    /// What is refused is not taken.
     #[tactic(auto, using(crate::proofs::Numbers::count_refused, crate::proofs::Numbers::entry_refused, crate::proofs::Numbers::extra_refused), unfolding(crate::specs::Taken::form_numbers))]
     pub fn take(&mut self, number: i128) -> Result<(), Refusal>
         ensures ok { OnOk result (form_numbers self.new ≡ form_numbers self.old ++ number ∷ []) }
         ensures err { IfErr result (IsRefusedAfter (form_numbers self.old) (some number)) }
+        ensures stays { OnErr result (self.new ≡ self.old) }
     {
         if self.pool.len() < self.n {
             self.pool.push(fitting(number)?);

@@ -8,4 +8,4 @@ use Rattle.listing.proofs.form.Given.parse.Goals as goal
 pub returns-in_err-feed : goal.returns-in_err-feed
 returns-in_err-feed c =
     let same : c.from_residual.result ≡ Err c.in_err-feed.field-0.0 = grind (arith, common_steps) in
-    ap reading (sym (append-nil c.args.text.now)) ∙ c.in_err-feed.ensures.err [] c.new-session.ensures [] ∙ ap reading_as (sym same)
+    ap reading (sym (append-nil c.args.text.now)) ∙ c.in_err-feed.ensures.err [] c.new-session.ensures.so_far [] ∙ ap reading_as (sym same)

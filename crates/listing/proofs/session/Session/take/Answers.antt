@@ -4,7 +4,7 @@ use Rattle.std.proofs.lemmas.Int.{to_z-of_z}
 use mir.Syntax.{w128}
 use mir.Val.{SFits}
 use Rattle.listing.proofs.Words.{next_none, next_number, next_refused, next_malformed}
-use Rattle.listing.proofs.session.Session.push.Goals as goal
+use Rattle.listing.proofs.session.Session.take.Goals as goal
 
 pub returns-in-Ok-None-clause-ok : goal.returns-in-Ok-None-clause-ok
 returns-in-Ok-None-clause-ok c = λ text so_far. next_none so_far c.args.byte c.push.ensures.given (c.in-Ok-None.is ∙ ap Ok c.in-Ok-None.field-0-is) c.push.ensures.state refl
