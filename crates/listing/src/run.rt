@@ -83,7 +83,10 @@ fn write_page<W: Write>(writer: &mut W, page: &[u8]) -> io::Result<()>
             break;
         }
         match writer.write(rest) {
-            Ok(0) => return Err(ErrorKind::WriteZero.into()),
+            Ok(0) => {
+                let message = "failed to write whole buffer";
+                return Err(io::Error::new(ErrorKind::WriteZero, message));
+            }
             Ok(count) => rest = &rest[count..],
             Err(error) if error.kind() == ErrorKind::Interrupted => {}
             Err(error) => return Err(error),
