@@ -1,7 +1,7 @@
 -- What the outward call answers, for every input, and what it leaves in the slice. Assumes nothing.
 use Rattle.std.proofs.Math.Path.{◌≡◌, refl}
 use Rattle.std.proofs.Common.{sym, ◌∙◌, subst, arith, ext_get_or}
-use Rattle.std.specs.Prelude.{Bool, List, [], ◌⊎◌, ◌≢◌, ℕ, ◌*◌, ◌<◌, ℤ, pos, get_or, ◌≤ℤ◌}
+use Rattle.std.specs.Prelude.{Bool, IsTrue, ◌↔◌, List, [], ◌⊎◌, ◌≢◌, ℕ, ◌*◌, ◌<◌, ℤ, pos, get_or, ◌≤ℤ◌}
 use Rattle.std.proofs.Math.Bool.{true, false}
 use Rattle.std.proofs.Math.ListN.{length}
 use Rattle.laws.specs.Every.{every_at}
@@ -77,3 +77,11 @@ judged {n} {r} {add} {letters} {d} {m} {entry} {exit} j l c =
 
     size : length exit ≡ length (lattice n r)
     size = c.size ∙ in_dst refl c.answered
+
+-- the same of a judge that says so by one equivalence, as `maxima::is_subset_max` does
+pub is_judged : {n r : ℕ} {add letters : List ℕ} {d m entry exit : List ℤ} {b : Bool} → IsTrue b ↔ SubsetMax n r d m → length m ≡ length (lattice n r)
+    → SubsetMaxed n r add letters d entry 0 exit → IsTrue b ↔ (m ≡ exit)
+is_judged {n} {r} {d = d} {m = m} {b = b} j l c = ((judged decides l c).yes, λ q. j.1 (subst (SubsetMax n r d) (sym q) (c.filled refl)))
+  where
+    decides : Decides b (SubsetMax n r d m)
+    decides = record { yes = j.0; no = λ e s. let t : b ≡ true = j.1 s in cc }

@@ -1,8 +1,7 @@
 -- What the inner calls of the table sums ask and give. Assumes nothing.
 use Rattle.std.proofs.Math.Path.{◌≡◌, refl, ap}
 use Rattle.std.proofs.Common.{sym, ◌∙◌, subst, inl, inr, le_trans, le_of_eq, eq-zero-or-pos, add_comm, mul-le-mul_left, ext_get_or}
-use Rattle.std.proofs.lemmas.List.{length-replicate, get_or-replicate}
-use Rattle.std.specs.Prelude.{◌⊎◌, Bool, List, ℕ, suc, ◌+◌, ◌-◌, ◌*◌, ◌^◌, ◌≤◌, ◌<◌, T, Float, ℤ, pos, length, get_or, replicate}
+use Rattle.std.specs.Prelude.{◌⊎◌, Bool, List, ℕ, suc, ◌+◌, ◌-◌, ◌*◌, ◌^◌, ◌≤◌, ◌<◌, T, Float, ℤ, pos, length, get_or}
 use Rattle.std.proofs.Math.Bool.{true, false, cond}
 use Rattle.std.proofs.Math.Nat.{le-suc, le-max_left}
 use Rattle.std.proofs.Math.Decide.{dec_lt}
@@ -23,7 +22,7 @@ use Rattle.hands.proofs.Hands.{ways_drawable}
 use Rattle.fused.specs.Racks.{Pool, RackWays}
 use Rattle.sums.specs.Weight.{Clear}
 use Rattle.table_sums.specs.Table.{best_at, most_best, Sized, Limit, Filled, Verdict, accepted, limits, Apportioned}
-use Rattle.table_sums.specs.Racks.{most_from, part, anew, part_long, part_at, anew_long, anew_below, anew_from}
+use Rattle.table_sums.specs.Racks.{most_from, Cleared, part, anew, part_long, part_at, anew_long, anew_below, anew_from}
 use Rattle.table_sums.specs.Dealt.{Ways, most_is}
 
 -- the sizes are those of a lattice of the pool's letters
@@ -181,26 +180,18 @@ module _ {w : ℕ} {z : Sizes} {best : List ℤ} {pool : List ℕ} {num den : Li
         limit = limit_holds h;
       }
 
+    pub clear_fits : z.leaves ≤ length den'
+    clear_fits = omega (arith, v.long, lo_below clearly)
+
     -- taken out again
-    pub restored : {ys : List Float} {x : Float} → x ≡ whole (pos 0) → ys ≡ replicate (length (part z.leaves den')) x → anew z.leaves den' ys ≡ den
-    restored {ys} {x} q f =
-        let e : length (anew z.leaves den' ys) ≡ length den = anew_long z.leaves den' low ys size ∙ v.long in
-        ext_get_or nan (anew z.leaves den' ys) den e (λ i h. by i (omega arith) (dec_lt i z.leaves))
+    pub restored : {ys : List Float} → Cleared z.leaves (length den') den' ys → ys ≡ den
+    restored {ys} k =
+        let e : length ys ≡ length den = k.long ∙ v.long in
+        ext_get_or nan ys den e (λ i h. by i h (dec_lt i z.leaves))
       where
-        low : z.leaves ≤ length den'
-        low = omega (arith, v.long, lo_below clearly)
-
-        size : length ys ≡ length den' - z.leaves
-        size = ap length f ∙ length-replicate (length (part z.leaves den')) x ∙ part_long z.leaves den' low
-
-        by : (i : ℕ) → i < length den → Dec (i < z.leaves) → get_or (anew z.leaves den' ys) i nan ≡ get_or den i nan
-        by i h (yes l) = anew_below z.leaves den' low ys i nan l ∙ v.below i l
-        by i h (no l) =
-            let e : z.leaves + (i - z.leaves) ≡ i = omega arith in
-            let j : i - z.leaves < length (part z.leaves den') = omega (arith, part_long z.leaves den' low, v.long) in
-            ap (λ (k : ℕ). get_or (anew z.leaves den' ys) k nan) (sym e)
-            ∙ anew_from z.leaves den' low ys (i - z.leaves) nan (omega (arith, size, v.long))
-            ∙ ap (λ (zs : List Float). get_or zs (i - z.leaves) nan) f ∙ get_or-replicate (length (part z.leaves den')) (i - z.leaves) x nan j ∙ q ∙ sym (d.dens i h)
+        by : (i : ℕ) → i < length ys → Dec (i < z.leaves) → get_or ys i nan ≡ get_or den i nan
+        by i h (yes l) = k.outside i (inl l) ∙ v.below i l
+        by i h (no l) = k.inside i (omega arith) (omega (arith, k.long)) ∙ sym (d.dens i (omega (arith, k.long, v.long)))
 
 pub beyond_restored : {n r : ℕ} {best : List ℤ} {pool : List ℕ} {num den xs : List Float} → (Limit n r best pool → ⊥) → xs ≡ den → Dealt n r best pool num den 9 num xs
 beyond_restored {n} {r} {best} {pool} {num} {den} f e = subst (λ (ys : List Float). Dealt n r best pool num den 9 num ys) (sym e) (beyond f)

@@ -1,8 +1,8 @@
 -- What the loops over the full racks' own entries compute and write, and the part of a table from the first of them on. Assumes nothing.
-use Rattle.std.specs.Prelude.{◌≡◌, refl, ◌⊎◌, Bool, true, false, cond, List, ℕ, suc, ◌+◌, ◌≤◌, ◌<◌, max, ℤ, pos, nat_abs, length, get_or, set, ◌++◌, ◌-◌, take, drop}
+use Rattle.std.specs.Prelude.{◌≡◌, refl, ◌⊎◌, Bool, true, false, cond, List, ℕ, suc, ◌+◌, ◌≤◌, ◌<◌, max, ℤ, pos, nat_abs, length, get_or, set, ◌++◌, ◌-◌, take, drop, replicate}
 use Rattle.std.proofs.Common.{sym, ap, ◌∙◌, inl, inr, le_of_eq, length-set, length-drop, length-append, length-take-le, get_or-take, get_or-drop, get_or-append-add, get_or-set_same, get_or-set_other, le_refl, arith}
 use Rattle.std.proofs.Math.ListN.{get_or-append}
-use Rattle.std.proofs.lemmas.List.{get_or_past}
+use Rattle.std.proofs.lemmas.List.{get_or_past, length-replicate, get_or-replicate}
 use Rattle.std.specs.Float.Ieee.{Float, lt, mul, of_bits, binary64}
 use Rattle.std.specs.Float.{nan}
 use Rattle.std.proofs.Math.Decide.{ℕ_discrete}
@@ -27,6 +27,12 @@ value_one best ways k num = cond (lt (of_bits binary64 0) (at_f ways k)) (set nu
 pub record Valued (lo : ℕ) (best : List ℤ) (ways : List Float) (k : ℕ) (a b : List Float) : Type 0 where
   pub long : length b ≡ length a
   pub inside : (i : ℕ) → lo ≤ i → i < k → get_or b i nan ≡ cond (lt (of_bits binary64 0) (at_f ways i)) (mul binary64 (at_f ways i) (whole (at_ℤ best i))) (get_or a i nan)
+  pub outside : (i : ℕ) → (i < lo) ⊎ (k ≤ i) → get_or b i nan ≡ get_or a i nan
+
+-- a becomes b: each entry from lo to below k is +0.0, and the rest is as it was
+pub record Cleared (lo k : ℕ) (a b : List Float) : Type 0 where
+  pub long : length b ≡ length a
+  pub inside : (i : ℕ) → lo ≤ i → i < k → get_or b i nan ≡ whole (pos 0)
   pub outside : (i : ℕ) → (i < lo) ⊎ (k ≤ i) → get_or b i nan ≡ get_or a i nan
 
 -- the part of xs from lo on
@@ -153,3 +159,25 @@ valued_part lo best ways num {k} {ys} h w n more v = record { long = long; insid
     outside : (i : ℕ) → (i < lo) ⊎ (length best ≤ i) → get_or (anew lo num ys) i nan ≡ get_or num i nan
     outside i (inl l) = anew_below lo num h-num ys i nan l
     outside i (inr l) = get_or_past _ i nan (omega (arith, long)) ∙ sym (get_or_past num i nan (omega arith))
+
+-- the part filled with +0.0
+pub cleared_part : (lo : ℕ) (xs : List Float) → lo ≤ length xs → {ys : List Float} {x : Float} → x ≡ whole (pos 0) → ys ≡ replicate (length (part lo xs)) x → Cleared lo (length xs) xs (anew lo xs ys)
+cleared_part lo xs h {ys} {x} q f = record { long = long; inside = inside; outside = outside }
+  where
+    size : length ys ≡ length xs - lo
+    size = ap length f ∙ length-replicate (length (part lo xs)) x ∙ part_long lo xs h
+
+    long : length (anew lo xs ys) ≡ length xs
+    long = anew_long lo xs h ys size
+
+    inside : (i : ℕ) → lo ≤ i → i < length xs → get_or (anew lo xs ys) i nan ≡ whole (pos 0)
+    inside i l g =
+        let e : lo + (i - lo) ≡ i = omega arith in
+        let j : i - lo < length (part lo xs) = omega (arith, part_long lo xs h) in
+        ap (λ (k : ℕ). get_or (anew lo xs ys) k nan) (sym e)
+        ∙ anew_from lo xs h ys (i - lo) nan (omega (arith, size))
+        ∙ ap (λ (zs : List Float). get_or zs (i - lo) nan) f ∙ get_or-replicate (length (part lo xs)) (i - lo) x nan j ∙ q
+
+    outside : (i : ℕ) → (i < lo) ⊎ (length xs ≤ i) → get_or (anew lo xs ys) i nan ≡ get_or xs i nan
+    outside i (inl l) = anew_below lo xs h ys i nan l
+    outside i (inr l) = get_or_past _ i nan (omega (arith, long)) ∙ sym (get_or_past xs i nan l)

@@ -11,7 +11,7 @@ use fused::deal_racks;
 use lattice::Lattice;
 use lattice::sizes::Sizes;
 use passes::fold_letters;
-use racks::{fill_values, most_of};
+use racks::{clear_from, fill_values, most_of};
 use refusal::Refusal;
 use sums::weight::{all_clear, tiles_in, weight, within_limit};
 
@@ -50,7 +50,7 @@ fn sum_racks(sizes: Sizes, best: &[i32], unseen: &[u8], num: &mut [f64], den: &m
 
 /// The ways of the full racks are dealt into den, which gives the largest best that counts. Beyond
 /// the limit they are taken out again.
-#[tactic(auto, using(crate::specs::Calls::clearly, crate::specs::Calls::most_fits, crate::specs::Calls::some_most))]
+#[tactic(auto, using(crate::specs::Calls::clearly, crate::specs::Calls::most_fits, crate::specs::Calls::some_most, crate::specs::Calls::clear_fits))]
 fn apportion_dealt(
     w: u64,
     sizes: Sizes,
@@ -66,7 +66,7 @@ fn apportion_dealt(
     deal_from(sizes, unseen, den);
     let most = most_of(sizes.leaves, best, den);
     if !within_limit(w, most) {
-        den[sizes.leaves..].fill(0.0);
+        clear_from(den, sizes.leaves);
         return Err(Refusal::Weight);
     }
     sum_racks(sizes, best, unseen, num, den);

@@ -3,7 +3,7 @@
 ghost use Rattle.std.specs.Prelude.{◌≡◌, cond, ◌-◌, ◌≤◌, max, nat_abs, length};
 ghost use Rattle.std.specs.Float.Ieee.{lt, of_bits};
 ghost use Rattle.std.specs.Float.{binary64};
-ghost use Rattle.table_sums.specs.Racks.{most_from, Valued};
+ghost use Rattle.table_sums.specs.Racks.{most_from, Valued, Cleared};
 
 use sums::weight::larger;
 
@@ -42,4 +42,12 @@ pub fn fill_values(lo: usize, best: &[i32], ways: &[f64], num: &mut [f64])
             *sum = ways[j] * f64::from(best[j]);
         }
     }
+}
+
+/// Every entry from lo on becomes +0.0.
+pub fn clear_from(xs: &mut [f64], lo: usize)
+    requires { lo ≤ length xs.old }
+    ensures { Cleared lo (length xs.old) xs.old xs.new }
+{
+    xs[lo..].fill(0.0);
 }

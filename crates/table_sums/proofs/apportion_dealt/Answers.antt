@@ -1,7 +1,6 @@
 -- `table_sums::apportion_dealt` meets its contract. Assumes nothing.
 use mathlib.Core.Path.{refl}
 use mathlib.Core.Bool.{false≢true}
-use Rattle.whole.proofs.Steps.{zero_literal}
 use Rattle.table_sums.specs.Calls.{summed, beyond_restored, limit_holds, limit_fails, summing, restored}
 use Rattle.table_sums.proofs.apportion_dealt.Goals as goal
 
@@ -21,4 +20,4 @@ returns-then-not-within_limit c =
     let v = c.deal_from.ensures in
     beyond_restored
     (limit_fails d v c.most_of-most.ensures (λ h. false≢true (c.if-not-within_limit.ensures.1 h)))
-    (restored d v zero_literal (c.fill.ensures.after (λ y e. e)))
+    (restored d v c.clear_from.ensures)

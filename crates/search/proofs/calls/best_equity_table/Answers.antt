@@ -32,8 +32,8 @@ returns-then-not-all_small c =
     let out = c.if-out-sizes.false ∙ s.counts in
     rw (← c.in_ok-sizes.ensures.0, ← c.in_ok-sizes.ensures.1)
     (tabled_refused _ _ _ _ _ (sym (elim c.then-not-all_small.branch [
-      | then-not-all_small-via-then-not-all_small w ↦ beyond_sheet _ _ _ _ _ s.is_served sheet leave out (sym c.all_small.ensures ∙ w.if-not-all_small.true)
-      | then-not-all_small-via-else-not-all_small+then-not-all_small-2 w ↦ beyond_leave _ _ _ _ _ s.is_served sheet leave out (sym w.all_small-else-not-all_small.ensures ∙ w.if-not-all_small-2.true)
+      | then-not-all_small-via-then-not-all_small w ↦ beyond_sheet _ _ _ _ _ s.is_served sheet leave out (sym c.all_small.ensures.told ∙ w.if-not-all_small.true)
+      | then-not-all_small-via-else-not-all_small+then-not-all_small-2 w ↦ beyond_leave _ _ _ _ _ s.is_served sheet leave out (sym w.all_small-else-not-all_small.ensures.told ∙ w.if-not-all_small-2.true)
     ])) (λ z. omega (arith, z)))
 
 zeros : (c : goal.Else-not-all_small-2) → length {A = ℕ} (take c.in_ok-sizes.sizes.n (replicate 64 0)) ≡ c.in_ok-sizes.sizes.n
@@ -47,10 +47,10 @@ slice_bounds-fill_racks-end c = sym (zeros (goal.at.slice_bounds-fill_racks-end 
 
 -- no entry is beyond
 sheet_small : (c : goal.Else-not-all_small-2) → all_of small c.args.sheet.now ≡ true
-sheet_small c = sym c.all_small.ensures ∙ c.if-not-all_small.false
+sheet_small c = sym c.all_small.ensures.told ∙ c.if-not-all_small.false
 
 leave_small : (c : goal.Else-not-all_small-2) → all_of small c.args.leave.now ≡ true
-leave_small c = sym c.all_small-else-not-all_small.ensures ∙ c.if-not-all_small-2.false
+leave_small c = sym c.all_small-else-not-all_small.ensures.told ∙ c.if-not-all_small-2.false
 
 pub fill_racks-requires : goal.fill_racks-requires
 fill_racks-requires c =
