@@ -1,3 +1,4 @@
 pub mod Call
 pub mod Listed
 pub mod Reading
+pub mod Word

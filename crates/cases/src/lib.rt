@@ -8,9 +8,11 @@ mod fault;
 mod fields;
 mod reading;
 mod recorded;
+mod word;
 
 pub use call::{Call, UnknownCall};
 pub use fault::Fault;
 pub use fields::Fields;
-pub use reading::{ListError, Reading, is_blank};
+pub use reading::{ListError, MOST_KEPT, Reading, is_blank};
 pub use recorded::{Recorded, same};
+pub use word::{MOST_BYTES, push_byte};

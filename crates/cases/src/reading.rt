@@ -1,18 +1,22 @@
 //! The records of a list, read a word at a time.
-ghost use Rattle.std.specs.Prelude.{◌≡◌, ◌≢◌, [], ◌∷◌, ◌↔◌, None, Some, IsTrue, IsOk, IfOk, IsSome};
-ghost use Rattle.std.specs.Prelude.{IfSome, OnErr, Contains};
-ghost use Rattle.std.specs.Str.Parse.{digits_value};
+ghost use Rattle.std.specs.Prelude.{◌≡◌, ◌≢◌, ℕ, ◌≤◌, [], ◌∷◌, ◌↔◌, None, Some, IsTrue, IsOk};
+ghost use Rattle.std.specs.Prelude.{IfOk, IsSome, IsNone, IfSome, OnErr, Contains, max};
+ghost use Rattle.cases.specs.Word.{IsNatural, IsNegated, Says};
 
 use std::alloc::{AllocFailed, Global};
 use std::error::Error;
 use std::{fmt, mem};
+
+/// How many numbers of a record are kept at most: its first.
+pub const MOST_KEPT: usize = 16385;
 
 /// How far a list is read.
 #[derive(Debug, Drop)]
 pub enum Reading {
     /// The head of a record, or the end of the list, is to come.
     Between,
-    /// Numbers of a record came, and so many are wanted.
+    /// Numbers of a record came, and so many are wanted; each that is not kept makes these one
+    /// fewer.
     Within { wanted: u64, numbers: Vec<u64> },
     /// The list ended: no more words may come.
     Ended,
@@ -56,7 +60,8 @@ pub fn is_blank(byte: &u8) -> bool
 
 /// The number of a word of digits.
 fn natural_of(word: &[u8]) -> Option<u64>
-    ensures { IfSome result (λ n. n ≡ digits_value 10 word.now) }
+    ensures some { IfSome result (λ n. IsNatural n word.now) }
+    ensures none { IsNone result → (n : ℕ) → ¬ IsNatural n word.now }
 {
     if !word.first()?.is_ascii_digit() {
         return None;
@@ -65,7 +70,10 @@ fn natural_of(word: &[u8]) -> Option<u64>
 }
 
 /// The number of a word of digits after a minus, as its two's complement.
-fn negative_of(word: &[u8]) -> Option<u64> {
+fn negative_of(word: &[u8]) -> Option<u64>
+    ensures some { IfSome result (λ n. IsNegated n word.now) }
+    ensures none { IsNone result → (n : ℕ) → ¬ IsNegated n word.now }
+{
     let magnitude = natural_of(word)?;
     if magnitude > 1 << 31 {
         return None;
@@ -74,7 +82,10 @@ fn negative_of(word: &[u8]) -> Option<u64> {
 }
 
 /// The number of a word.
-fn number_of(word: &[u8]) -> Option<u64> {
+fn number_of(word: &[u8]) -> Option<u64>
+    ensures some { IfSome result (λ n. Says n word.now) }
+    ensures none { IsNone result → (n : ℕ) → ¬ Says n word.now }
+{
     match word {
         [b'-', digits @ ..] => negative_of(digits),
         _ => natural_of(word),
@@ -82,16 +93,22 @@ fn number_of(word: &[u8]) -> Option<u64> {
 }
 
 impl Reading {
-    ghost use Rattle.cases.specs.Reading.{Completes};
+    ghost use Rattle.cases.specs.Reading.{Completes, Continues, kept};
+    ghost use Rattle.cases.specs.declared.reading.TheConstants.{MOST_KEPT};
 
     /// Takes the next word of a text (an empty one says nothing), and gives the numbers of the
-    /// record that it completes.
+    /// record that it completes, the first `MOST_KEPT` of a longer one.
     pub fn take(&mut self, alloc: Global, word: &[u8]) -> Result<Option<Vec<u64>>, ListError>
         ensures empty { word.now ≡ [] → (result ≡ Ok None) × (self.new ≡ self.old) }
-        ensures record { IfOk result (λ r. IfSome r (Completes self.old)) }
+        ensures record { IfOk result (λ r. IfSome r (Completes self.old word.now)) }
+        ensures continues { IfOk result (λ r. IsNone r → word.now ≢ []
+            → Continues self.old word.now self.new) }
         ensures between { IfOk result (λ r. IsSome r → self.new ≡ Reading.Between) }
         ensures ended { self.old ≡ Reading.Ended → word.now ≢ []
             → result ≡ Err ListError.Malformed }
+        ensures malformed { ((n : ℕ) → ¬ Says n word.now) → word.now ≢ []
+            → result ≡ Err ListError.Malformed }
+        ensures most { kept self.new ≤ max (kept self.old) MOST_KEPT }
     {
         if word.is_empty() {
             return Ok(None);
@@ -111,7 +128,11 @@ impl Reading {
                 Ok(None)
             }
             Reading::Within { wanted, numbers } => {
-                numbers.push(number)?;
+                if numbers.len() < MOST_KEPT {
+                    numbers.push(number)?;
+                } else {
+                    *wanted = wanted.saturating_sub(1);
+                }
                 if (numbers.len() as u64) < *wanted {
                     return Ok(None);
                 }
@@ -132,5 +153,42 @@ impl Reading {
             Reading::Ended => Ok(()),
             _ => Err(ListError::Cut),
         }
+    }
+}
+
+#[cfg(test)]
+mod tests {
+    use super::*;
+    use crate::word::push_byte;
+    use std::alloc::AllocError;
+
+    #[test]
+    fn zeros_before_a_number(rt: HostRuntime) -> Result<(), AllocError> {
+        let mut word = Vec::new(rt.alloc());
+        push_byte(&mut word, b'-')?;
+        for _ in 0..1000 {
+            push_byte(&mut word, b'0')?;
+        }
+        push_byte(&mut word, b'7')?;
+        assert_eq!(rt; number_of(&word), Some(18446744073709551609));
+        for _ in 0..1000 {
+            push_byte(&mut word, b'7')?;
+        }
+        assert_eq!(rt; number_of(&word), None);
+        Ok(())
+    }
+
+    #[test]
+    fn more_numbers_than_are_kept(rt: HostRuntime) -> Result<(), ListError> {
+        let alloc = rt.alloc();
+        let mut reading = Reading::Between;
+        reading.take(alloc, b"20000")?;
+        for _ in 1..20000 {
+            assert!(rt; reading.take(alloc, b"5")?.is_none());
+        }
+        let record = reading.take(alloc, b"6")?;
+        assert_eq!(rt; record.map_or(0, |numbers| numbers.len()), MOST_KEPT);
+        reading.take(alloc, b"0")?;
+        reading.finish()
     }
 }

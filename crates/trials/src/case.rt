@@ -5,12 +5,15 @@ ghost use Rattle.trials.specs.Record.{GivesList, NamesNoCall};
 use crate::answer;
 use crate::lent::{MOST_RANKS, MOST_TILES, MOST_VALUES};
 use crate::outcome::Outcome;
-use cases::{Call, Fault, Fields, Recorded};
+use cases::{Call, Fault, Fields, MOST_KEPT, Recorded};
 use lattice::Lattice;
 use std::alloc::{AllocError, Global};
 
 /// The most numbers of a record: a longer one differs.
 pub const MOST_NUMBERS: usize = 16384;
+
+// Of a longer record enough is kept to tell.
+const _: () = prove!(MOST_NUMBERS < MOST_KEPT);
 
 /// What the records of a list set: the lattice, the pool, the sheet, the leave, the best table, and
 /// the lattice's table of ranks with the same letter by letter. Both are empty where the sizes are
