@@ -1,4 +1,4 @@
-use Rattle.std.proofs.Common.{ℕ, ◌+◌, ◌-◌, ◌<◌, length, arith}
+use Rattle.std.proofs.Common.{◌+◌, ◌-◌, ◌<◌, length, arith}
 use Rattle.binomials.specs.Binomial.{binomial}
 use Rattle.lattice.specs.Served.{Served, facts}
 use Rattle.lattice.proofs.Filling.{rest_small, placed_at}
