@@ -29,7 +29,7 @@ returns-then-high-letter c =
 
 pub returns-then-self-tiles : goal.returns-then-self-tiles
 returns-then-self-tiles c =
-    too_many _ _ _ _ _ (sym c.if-not-serves.ensures) c.if-letters-counts.false (taken_many c.loop-i.invariant c.loop-i-test.true c.if-letters-counts.false (omega (arith, c.if-self-tiles.true, c.from-count.ensures)))
+    refused (too_many _ _ _ _ _ (sym c.if-not-serves.ensures) c.if-letters-counts.false (taken_many c.loop-i.invariant c.loop-i-test.true c.if-letters-counts.false (omega (arith, c.if-self-tiles.true, c.from-count.ensures))))
 
 pub overflow_add-tiles : goal.overflow_add-tiles
 overflow_add-tiles c = let f = sizes (goal.at.overflow_add-tiles c).Else-not-serves in omega (arith, c.loop-i.invariant.few, f.tiles, c.type_inv.counts (c.loop-i.i - 1), c.from-count.ensures)
