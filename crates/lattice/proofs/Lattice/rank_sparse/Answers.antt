@@ -1,9 +1,8 @@
-use Rattle.std.proofs.Common.{sym}
 use Rattle.lattice.proofs.Calls.{rank_sparse_gives}
 use Rattle.lattice.proofs.Lattice.rank_sparse.Goals as goal
 
-pub returns-in-Some : goal.returns-in-Some
-returns-in-Some c = rank_sparse_gives (sym c.in-Some.ensures)
+pub returns-else-self-ge1 : goal.returns-else-self-ge1
+returns-else-self-ge1 c = rank_sparse_gives c.sparse_of_any.ensures
 
-pub returns-in-None : goal.returns-in-None
-returns-in-None c = rank_sparse_gives (sym (c.sparse_refusal.ensures _ c.in-None.ensures))
+pub returns-then-s-self : goal.returns-then-s-self
+returns-then-s-self c = rank_sparse_gives c.sparse_of_seven.ensures
